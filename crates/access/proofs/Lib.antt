@@ -1,0 +1,2 @@
+-- The laws of right sets and kinds.
+pub mod Laws

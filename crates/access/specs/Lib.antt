@@ -1,0 +1,5 @@
+-- The words of the field: rights, kinds, error numbers, levels, limits.
+pub mod Rights
+pub mod Kinds
+pub mod Errno
+pub mod Limits

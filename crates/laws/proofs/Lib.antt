@@ -1,0 +1,8 @@
+-- The laws of the definitions in specs/.
+pub mod Bools
+pub mod Tests
+pub mod Conditions
+pub mod Readings
+pub mod Refusals
+pub mod Cells
+pub mod Copies

@@ -1,0 +1,32 @@
+-- How code comes to the outcome of a call, and what an outcome tells, for any call. Assumes nothing.
+use mathlib.Core.Path.{_≡_, refl}
+use mathlib.Core.Bool.{Bool, true, false, not}
+use mathlib.Core.List.{List, _∷_}
+use Prim.Native.Nat.{ℕ}
+use borrow.Author.Tests.{eqb-false}
+use Rattle.laws.specs.Refusals.{Check, _⇒_, first}
+use Rattle.laws.proofs.Refusals.{first-is, hit-not}
+use Rattle.access.specs.Errno.{EIO}
+use Rattle.tables.specs.Tables.{Tables}
+use Rattle.tables.specs.Outcome.{Outcome, refused}
+use Rattle.tables.proofs.Outcomes.{answer-refused, answer-done}
+use Rattle.sound.specs.Sound.{sound}
+use Rattle.sound.specs.Call.{call}
+
+module _ (T : Tables) (cs : List Check) (done : Outcome) where
+  -- the first of the whole list, once the tables are known to be sound
+  past-soundness : {b : Bool} {e : ℕ} → b ≡ sound T → not b ≡ false → e ≡ first cs → e ≡ first (not (sound T) ⇒ EIO ∷ cs)
+  unfolding first
+  past-soundness q p k = rw (← q, p) k
+
+  pub call-unsound : {b : Bool} → b ≡ sound T → not b ≡ true → refused EIO T ≡ call T cs done
+  unfolding call
+  call-unsound q p = answer-refused T (not (sound T) ⇒ EIO ∷ cs) done (first-is (hit-not q p)) (eqb-false EIO 0 refl)
+
+  pub call-refused : {b : Bool} {e : ℕ} → b ≡ sound T → not b ≡ false → e ≡ first cs → (e ≡ 0 → ⊥) → refused e T ≡ call T cs done
+  unfolding call
+  call-refused q p k n = answer-refused T (not (sound T) ⇒ EIO ∷ cs) done (past-soundness q p k) n
+
+  pub call-done : {b : Bool} {e : ℕ} → b ≡ sound T → not b ≡ false → e ≡ first cs → e ≡ 0 → done ≡ call T cs done
+  unfolding call
+  call-done q p k z = answer-done T (not (sound T) ⇒ EIO ∷ cs) done (past-soundness q p k) z

@@ -1,0 +1,6 @@
+-- Assumes nothing.
+use Rattle.sound.proofs.entries_part.Statement.{statement}
+use Rattle.sound.proofs.entries_part.Tie as tie
+
+pub entries-part-spec : {M : Type 1} → statement M
+entries-part-spec = tie.close (tie.spec (λ c κs. tt) (λ c κs. tt) (λ c. cc))

@@ -1,0 +1,6 @@
+-- Assumes nothing.
+use Rattle.sound.proofs.layers_part.Statement.{statement}
+use Rattle.sound.proofs.layers_part.Tie as tie
+
+pub layers-part-spec : {M : Type 1} → statement M
+layers-part-spec = tie.close (tie.spec (λ c κs. tt) (λ c κs. tt) (λ c κs. tt) (λ c κs. tt) (λ c κs. tt) (λ c. cc))

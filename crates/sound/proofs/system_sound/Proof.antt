@@ -1,0 +1,18 @@
+-- Assumes nothing.
+use Rattle.laws.proofs.Conditions.{all-is, conditions}
+use Rattle.laws.proofs.Readings.{readings}
+use Rattle.sound.specs.Sound.{systemSound}
+use Rattle.sound.proofs.system_sound.Statement.{statement}
+use Rattle.sound.proofs.system_sound.Tie as tie
+
+pub system-sound-spec : {M : Type 1} → statement M
+unfolding systemSound
+system-sound-spec =
+    tie.close
+    (tie.spec
+    (λ c κs. tt)
+    (λ c. all-is (search (readings, conditions) depth 16))
+    (λ c κs. tt)
+    (λ c. all-is (search (readings, conditions) depth 16))
+    (λ c. all-is (search (readings, conditions) depth 16))
+    (λ c. all-is (search (readings, conditions) depth 16)))

@@ -1,0 +1,3 @@
+-- When tables are sound.
+pub mod Sound
+pub mod Call

@@ -1,0 +1,3 @@
+-- The laws of threads and their domains.
+pub mod Chains
+pub mod Facts

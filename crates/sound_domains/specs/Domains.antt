@@ -1,0 +1,37 @@
+-- Document 01, "Tables are sound if": the clauses on threads and their domains.
+use mathlib.Core.Bool.{Bool, true, cond}
+use mathlib.Core.List.{List, [], _∷_}
+use Prim.Native.Nat.{ℕ, zero, suc, _-_}
+use lib.Dec.{eqb, leb}
+use Rattle.laws.specs.Tests.{allBelow, allOf}
+use Rattle.access.specs.Limits.{maxThreads, maxDomain}
+use Rattle.tables.specs.Tables.{threadState, youngest, noNewPrivs, admin, threadLive}
+use Rattle.tables.specs.Layers.{layerParent}
+
+-- from the layer that a cell names (its number + 1, or 0 for none) the parents come to none within n layers
+unfoldable pub chainEnds : List ℕ → ℕ → ℕ → Bool
+chainEnds ls zero y = eqb y 0
+chainEnds ls (suc n) y = let r = chainEnds ls n (layerParent ls (y - 1)) in cond (eqb y 0) true r
+
+-- "threads .. name only those" layers in use
+abbrev pub youngestInUse : List ℕ → ℕ → ℕ → Bool
+youngestInUse ts used t = leb (youngest ts t) used
+
+-- "domains have at most 16 layers"
+abbrev pub domainFits : List ℕ → List ℕ → ℕ → Bool
+domainFits ls ts t = chainEnds ls maxDomain (youngest ts t)
+
+-- a live thread; "marks .. are in range"
+unfoldable pub liveSound : List ℕ → List ℕ → ℕ → ℕ → Bool
+liveSound ls ts used t =
+    allOf (eqb (threadState ts t) 1 ∷ youngestInUse ts used t ∷ leb (noNewPrivs ts t) 1 ∷ leb (admin ts t) 1 ∷ domainFits ls ts t ∷ [])
+
+-- "free space is zero"
+unfoldable pub freeSound : List ℕ → ℕ → Bool
+freeSound ts t = allOf (eqb (youngest ts t) 0 ∷ eqb (noNewPrivs ts t) 0 ∷ eqb (admin ts t) 0 ∷ [])
+
+unfoldable pub threadSound : List ℕ → List ℕ → ℕ → ℕ → Bool
+threadSound ls ts used t = cond (threadLive ts t) (liveSound ls ts used t) (freeSound ts t)
+
+unfoldable pub threadsSound : List ℕ → List ℕ → ℕ → Bool
+threadsSound ls ts used = allBelow (threadSound ls ts used) maxThreads

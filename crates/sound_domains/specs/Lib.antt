@@ -1,0 +1,2 @@
+-- When threads and their domains are sound.
+pub mod Domains

@@ -1,0 +1,2 @@
+-- The laws of layers and the pool.
+pub mod Facts

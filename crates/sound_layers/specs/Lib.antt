@@ -1,0 +1,2 @@
+-- When layers and the pool are sound.
+pub mod Layers

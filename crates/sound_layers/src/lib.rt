@@ -1,0 +1,216 @@
+// The soundness test of the layers and the pool. `used` layers and `taken` pool rules are in use.
+use access::limits::MAX_LAYERS;
+use access::limits::MAX_POOL;
+use access::limits::MAX_RULES;
+use access::rights::Rights;
+use sound_rules::masks_known;
+use sound_rules::rules_sound;
+use tables::cells::all_zero;
+use tables::rows::LAYER_WIDTH;
+use tables::rows::LAYERS_CELLS;
+use tables::rows::POOL_CELLS;
+use tables::rows::RULE_WIDTH;
+use tables::rows::handles_any;
+ghost use mathlib.Core.Path.{_≡_};
+ghost use mathlib.Core.Bool.{_||_};
+ghost use Prim.Native.Nat.{_+_, _*_, _<_, _≤_};
+ghost use lib.Dec.{leb};
+ghost use lib.ListN.{length};
+ghost use Rattle.laws.specs.Tests.{allBelow};
+ghost use Rattle.access.specs.Limits.{maxLayers, maxPool};
+ghost use Rattle.tables.specs.Tables.{layerWidth, ruleWidth};
+ghost use Rattle.sound_layers.specs.Layers.{runPlaced, layerSound, runsApart, runSound, restZero, layersSound, layersTest};
+
+// The run of a layer, by its first rule and its number of rules.
+fn run_placed(first: u64, count: u64, taken: u64) -> bool
+    ensures { λ r. ⌜ r ≡ runPlaced first count taken ⌝ }
+{
+    if count > MAX_RULES as u64 {
+        return false;
+    }
+    if first > taken {
+        return false;
+    }
+    if count > taken - first {
+        return false;
+    }
+    if count != 0 {
+        return true;
+    }
+    first == 0
+}
+
+fn layer_sound(
+    entries: &[u64],
+    next: u64,
+    level: u64,
+    layers: &[u64],
+    pool: &[u64],
+    taken: u64,
+    l: usize,
+) -> bool
+    requires { ⌜ (length (now layers) ≡ layerWidth * maxLayers) × ((length (now pool) ≡ ruleWidth * maxPool) × ((taken ≤ maxPool) × (l < maxLayers))) ⌝ }
+    ensures { λ r. ⌜ r ≡ layerSound (now (entries .entry)) next level (now (layers .entry)) (now (pool .entry)) taken l ⌝ }
+{
+    let at = LAYER_WIDTH * l;
+    if layers[at] > l as u64 {
+        return false;
+    }
+    let first = layers[at + 4];
+    let count = layers[at + 5];
+    if !run_placed(first, count, taken) {
+        return false;
+    }
+    let fs = Rights(layers[at + 1]);
+    let net = Rights(layers[at + 2]);
+    let scope = Rights(layers[at + 3]);
+    if !handles_any(fs, net, scope) {
+        return false;
+    }
+    if !masks_known(level, fs, net, scope) {
+        return false;
+    }
+    let from = RULE_WIDTH * (first as usize);
+    let to = from + RULE_WIDTH * (count as usize);
+    rules_sound(entries, next, fs, net, &pool[from..to])
+}
+
+fn each_sound(
+    entries: &[u64],
+    next: u64,
+    level: u64,
+    layers: &[u64],
+    pool: &[u64],
+    used: u64,
+    taken: u64,
+) -> bool
+    requires { ⌜ (length (now layers) ≡ layerWidth * maxLayers) × ((length (now pool) ≡ ruleWidth * maxPool) × ((taken ≤ maxPool) × (used ≤ maxLayers))) ⌝ }
+    ensures { λ r. ⌜ r ≡ allBelow (layerSound (now (entries .entry)) next level (now (layers .entry)) (now (pool .entry)) taken) used ⌝ }
+{
+    let n = used as usize;
+    let mut l = 0;
+    while l < n {
+        if layer_sound(entries, next, level, layers, pool, taken, l) {
+            l += 1;
+        } else {
+            return false;
+        }
+    }
+    true
+}
+
+// Whether two runs are apart, by their first rules and their numbers of rules, each run within the pool.
+fn apart(first: u64, count: u64, other: u64, many: u64) -> bool
+    ensures { λ r. ⌜ r ≡ (leb (first + count) other || leb (other + many) first) ⌝ }
+{
+    if first <= other {
+        if count <= other - first {
+            return true;
+        }
+    }
+    if other <= first {
+        return many <= first - other;
+    }
+    false
+}
+
+fn runs_apart(layers: &[u64], l: usize, m: usize) -> bool
+    requires { ⌜ (length (now layers) ≡ layerWidth * maxLayers) × ((l < maxLayers) × (m < maxLayers)) ⌝ }
+    ensures { λ r. ⌜ r ≡ runsApart (now (layers .entry)) l m ⌝ }
+{
+    let a = LAYER_WIDTH * l;
+    let b = LAYER_WIDTH * m;
+    apart(layers[a + 4], layers[a + 5], layers[b + 4], layers[b + 5])
+}
+
+fn run_sound(layers: &[u64], l: usize) -> bool
+    requires { ⌜ (length (now layers) ≡ layerWidth * maxLayers) × (l < maxLayers) ⌝ }
+    ensures { λ r. ⌜ r ≡ runSound (now (layers .entry)) l ⌝ }
+{
+    let mut m = 0;
+    while m < l {
+        if runs_apart(layers, l, m) {
+            m += 1;
+        } else {
+            return false;
+        }
+    }
+    true
+}
+
+fn runs_sound(layers: &[u64], used: u64) -> bool
+    requires { ⌜ (length (now layers) ≡ layerWidth * maxLayers) × (used ≤ maxLayers) ⌝ }
+    ensures { λ r. ⌜ r ≡ allBelow (runSound (now (layers .entry))) used ⌝ }
+{
+    let n = used as usize;
+    let mut l = 0;
+    while l < n {
+        if run_sound(layers, l) {
+            l += 1;
+        } else {
+            return false;
+        }
+    }
+    true
+}
+
+// Past the layers and the rules in use every cell is 0.
+fn rest_zero(layers: &[u64], pool: &[u64], used: u64, taken: u64) -> bool
+    requires { ⌜ (length (now layers) ≡ layerWidth * maxLayers) × ((length (now pool) ≡ ruleWidth * maxPool) × ((taken ≤ maxPool) × (used ≤ maxLayers))) ⌝ }
+    ensures { λ r. ⌜ r ≡ restZero (now (layers .entry)) (now (pool .entry)) used taken ⌝ }
+{
+    let from = LAYER_WIDTH * (used as usize);
+    if !all_zero(&layers[from..LAYERS_CELLS]) {
+        return false;
+    }
+    let at = RULE_WIDTH * (taken as usize);
+    all_zero(&pool[at..POOL_CELLS])
+}
+
+fn all_sound(
+    entries: &[u64],
+    next: u64,
+    level: u64,
+    layers: &[u64],
+    pool: &[u64],
+    used: u64,
+    taken: u64,
+) -> bool
+    requires { ⌜ (length (now layers) ≡ layerWidth * maxLayers) × (length (now pool) ≡ ruleWidth * maxPool) ⌝ }
+    ensures { λ r. ⌜ r ≡ layersSound (now (entries .entry)) next level (now (layers .entry)) (now (pool .entry)) used taken ⌝ }
+{
+    if used > MAX_LAYERS as u64 {
+        return false;
+    }
+    if taken > MAX_POOL as u64 {
+        return false;
+    }
+    if !each_sound(entries, next, level, layers, pool, used, taken) {
+        return false;
+    }
+    if !runs_sound(layers, used) {
+        return false;
+    }
+    rest_zero(layers, pool, used, taken)
+}
+
+// Layers and pool have their lengths and are sound; `next` is the counter of object numbers.
+pub fn layers_sound(
+    entries: &[u64],
+    next: u64,
+    level: u64,
+    layers: &[u64],
+    pool: &[u64],
+    used: u64,
+    taken: u64,
+) -> bool
+    ensures { λ r. ⌜ r ≡ layersTest (now (entries .entry)) next level (now (layers .entry)) (now (pool .entry)) used taken ⌝ }
+{
+    if layers.len() != LAYERS_CELLS {
+        return false;
+    }
+    if pool.len() != POOL_CELLS {
+        return false;
+    }
+    all_sound(entries, next, level, layers, pool, used, taken)
+}

@@ -1,0 +1,2 @@
+-- What sound rules are.
+pub mod Facts

@@ -1,0 +1,29 @@
+-- The invariant: no rule before `j` has the key of rule `i`. Assumes nothing.
+use Prim.Native.Nat.{_≤_, _-_}
+use mathlib.Core.Path.{_≡_, sym, ap, _∙_}
+use mathlib.Core.Bool.{true, not}
+use native.Mathlib.Omega.{arith}
+use Rattle.laws.specs.Tests.{allBelow}
+use Rattle.laws.proofs.Tests.{all-none, all-more, all-done, all-fails}
+use Rattle.sound_rules.specs.Rules.{sameKey, newKey}
+use Rattle.sound_rules.proofs.new_key.Statement.{statement}
+use Rattle.sound_rules.proofs.new_key.Tie as tie
+
+abbrev Inv-loop : tie.InvT-loop
+Inv-loop rules i j₀ j = (j ≤ i) × (allBelow (λ k. not (sameKey rules i k)) j ≡ true)
+
+abbrev μ-loop : tie.MeasureT-loop
+μ-loop rules i j₀ j = i - j
+
+pub new-key-spec : {M : Type 1} → statement M
+unfolding newKey
+new-key-spec =
+    tie.close
+    (tie.spec Inv-loop μ-loop
+    (λ c. (omega arith, all-none _))
+    (λ c κs. (omega arith, omega arith))
+    (λ c. all-fails _ _ (c .before .before .before .loop .j) (omega arith) (ap not (sym (c .before .same-key .ensures) ∙ c .if1 .taken)))
+    (λ c. omega arith)
+    (λ c. omega arith)
+    (λ c. (omega arith, all-more _ _ (c .before .before .before .loop .inv .1) (ap not (sym (c .before .same-key .ensures) ∙ c .if1 .left))))
+    (λ c. all-done _ _ (c .before .loop .j) (omega arith) (omega arith) (c .before .loop .inv .1)))

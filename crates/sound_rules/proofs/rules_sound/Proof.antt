@@ -1,0 +1,16 @@
+-- Assumes nothing.
+use borrow.Author.Needs.{needs}
+use Rattle.laws.proofs.Conditions.{all-is, conditions}
+use Rattle.sound_rules.specs.Rules.{rulesSound}
+use Rattle.sound_rules.proofs.rules_sound.Statement.{statement}
+use Rattle.sound_rules.proofs.rules_sound.Tie as tie
+
+pub rules-sound-spec : {M : Type 1} → statement M
+unfolding rulesSound
+rules-sound-spec =
+    tie.close
+    (tie.spec
+    (λ c κs. search needs)
+    (λ c. all-is (search conditions depth 16))
+    (λ c κs. search needs)
+    (λ c. all-is (search conditions depth 16)))

@@ -1,0 +1,2 @@
+-- When rules are sound.
+pub mod Rules

@@ -1,0 +1,2 @@
+-- What sound rulesets are.
+pub mod Facts

@@ -1,0 +1,2 @@
+-- When rulesets are sound.
+pub mod Rulesets

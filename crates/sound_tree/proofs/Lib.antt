@@ -1,0 +1,5 @@
+-- The laws of sound entries.
+pub mod Rows
+pub mod Climb
+pub mod Reach
+pub mod Facts

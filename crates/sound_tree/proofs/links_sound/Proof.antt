@@ -1,0 +1,30 @@
+-- The invariant: `e` agrees with every entry below `f`. Assumes nothing.
+use Prim.Native.Nat.{_≤_, _-_}
+use mathlib.Core.Path.{_≡_, sym, _∙_}
+use mathlib.Core.Bool.{true}
+use native.Mathlib.Omega.{arith}
+use borrow.Author.Needs.{needs}
+use Rattle.laws.specs.Tests.{allBelow}
+use Rattle.laws.proofs.Tests.{all-none, all-more, all-done, all-fails}
+use Rattle.sound_tree.specs.Tree.{linkSound, linksSound}
+use Rattle.sound_tree.proofs.links_sound.Statement.{statement}
+use Rattle.sound_tree.proofs.links_sound.Tie as tie
+
+abbrev Inv-loop : tie.InvT-loop
+Inv-loop entries e f₀ f = (f ≤ e) × (allBelow (linkSound entries e) f ≡ true)
+
+abbrev μ-loop : tie.MeasureT-loop
+μ-loop entries e f₀ f = e - f
+
+pub links-sound-spec : {M : Type 1} → statement M
+unfolding linksSound
+links-sound-spec =
+    tie.close
+    (tie.spec Inv-loop μ-loop
+    (λ c. (omega arith, all-none _))
+    (λ c κs. search needs)
+    (λ c. omega arith)
+    (λ c. omega arith)
+    (λ c. (omega arith, all-more _ _ (c .before .before .before .loop .inv .1) (sym (c .before .link-sound .ensures) ∙ c .if1 .taken)))
+    (λ c. all-fails _ _ (c .before .before .before .loop .f) (omega arith) (sym (c .before .link-sound .ensures) ∙ c .if1 .left))
+    (λ c. all-done _ _ (c .before .loop .f) (omega arith) (omega arith) (c .before .loop .inv .1)))

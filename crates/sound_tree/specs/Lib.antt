@@ -1,0 +1,2 @@
+-- When the entries are sound.
+pub mod Tree

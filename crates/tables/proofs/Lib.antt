@@ -1,0 +1,4 @@
+-- The laws of the tables.
+pub mod Outcomes
+pub mod Lengths
+pub mod Freshness

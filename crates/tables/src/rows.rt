@@ -1,0 +1,177 @@
+// The cells of each table by name, and the sizes of the rows.
+use crate::cells::read;
+use crate::cells::row_read;
+use access::limits::MAX_ENTRIES;
+use access::limits::MAX_LAYERS;
+use access::limits::MAX_POOL;
+use access::limits::MAX_RULES;
+use access::limits::MAX_RULESETS;
+use access::limits::MAX_THREADS;
+use access::rights::Rights;
+ghost use mathlib.Core.Path.{_≡_};
+ghost use Rattle.tables.specs.Tables.{before, lengthsRight, level, counter, layersUsed, poolUsed, kind, parent, object, live, isDir, pastFileSet, youngest, threadLive};
+ghost use Rattle.tables.specs.Layers.{handlesAny, isOpen};
+
+pub const SYSTEM_WIDTH: usize = 4;
+
+pub const ENTRY_WIDTH: usize = 3;
+
+pub const RULE_WIDTH: usize = 3;
+// The cells of a ruleset before its rules.
+pub const RULESET_HEAD: usize = 4;
+
+pub const RULESET_WIDTH: usize = RULESET_HEAD + RULE_WIDTH * MAX_RULES;
+
+pub const LAYER_WIDTH: usize = 6;
+
+pub const THREAD_WIDTH: usize = 4;
+
+// The cells of each table.
+pub const SYSTEM_CELLS: usize = SYSTEM_WIDTH;
+
+pub const ENTRIES_CELLS: usize = ENTRY_WIDTH * MAX_ENTRIES;
+
+pub const RULESETS_CELLS: usize = RULESET_WIDTH * MAX_RULESETS;
+
+pub const LAYERS_CELLS: usize = LAYER_WIDTH * MAX_LAYERS;
+
+pub const POOL_CELLS: usize = RULE_WIDTH * MAX_POOL;
+
+pub const THREADS_CELLS: usize = THREAD_WIDTH * MAX_THREADS;
+
+// The types of rules.
+pub const PATH_RULE: u64 = 1;
+
+pub const PORT_RULE: u64 = 2;
+
+// The kind of a directory.
+pub const DIRECTORY: u64 = 2;
+
+// Every table has its length.
+pub fn lengths_right(
+    system: &[u64],
+    entries: &[u64],
+    rulesets: &[u64],
+    layers: &[u64],
+    pool: &[u64],
+    threads: &[u64],
+) -> bool
+    ensures { λ r. ⌜ r ≡ lengthsRight (before system entries rulesets layers pool threads) ⌝ }
+{
+    if system.len() != SYSTEM_CELLS {
+        return false;
+    }
+    if entries.len() != ENTRIES_CELLS {
+        return false;
+    }
+    if rulesets.len() != RULESETS_CELLS {
+        return false;
+    }
+    if layers.len() != LAYERS_CELLS {
+        return false;
+    }
+    if pool.len() != POOL_CELLS {
+        return false;
+    }
+    threads.len() == THREADS_CELLS
+}
+
+pub fn level_of(system: &[u64]) -> u64
+    ensures { λ r. ⌜ r ≡ level (now (system .entry)) ⌝ }
+{
+    read(system, 0)
+}
+
+pub fn counter_of(system: &[u64]) -> u64
+    ensures { λ r. ⌜ r ≡ counter (now (system .entry)) ⌝ }
+{
+    read(system, 1)
+}
+
+pub fn layers_used(system: &[u64]) -> u64
+    ensures { λ r. ⌜ r ≡ layersUsed (now (system .entry)) ⌝ }
+{
+    read(system, 2)
+}
+
+pub fn pool_used(system: &[u64]) -> u64
+    ensures { λ r. ⌜ r ≡ poolUsed (now (system .entry)) ⌝ }
+{
+    read(system, 3)
+}
+
+pub fn kind_of(entries: &[u64], e: u64) -> u64
+    ensures { λ r. ⌜ r ≡ kind (now (entries .entry)) e ⌝ }
+{
+    row_read(entries, ENTRY_WIDTH, e as usize, 0)
+}
+
+pub fn parent_of(entries: &[u64], e: u64) -> u64
+    ensures { λ r. ⌜ r ≡ parent (now (entries .entry)) e ⌝ }
+{
+    row_read(entries, ENTRY_WIDTH, e as usize, 1)
+}
+
+pub fn object_of(entries: &[u64], e: u64) -> u64
+    ensures { λ r. ⌜ r ≡ object (now (entries .entry)) e ⌝ }
+{
+    row_read(entries, ENTRY_WIDTH, e as usize, 2)
+}
+
+pub fn entry_live(entries: &[u64], e: u64) -> bool
+    ensures { λ r. ⌜ r ≡ live (now (entries .entry)) e ⌝ }
+{
+    kind_of(entries, e) != 0
+}
+
+pub fn is_dir(entries: &[u64], e: u64) -> bool
+    ensures { λ r. ⌜ r ≡ isDir (now (entries .entry)) e ⌝ }
+{
+    kind_of(entries, e) == DIRECTORY
+}
+
+// The entry is no directory, and some right is outside the file set.
+pub fn past_file_set(entries: &[u64], e: u64, rights: Rights) -> bool
+    ensures { λ r. ⌜ r ≡ pastFileSet (now (entries .entry)) e (rights .0) ⌝ }
+{
+    if is_dir(entries, e) {
+        return false;
+    }
+    !Rights::FILE.contains(rights)
+}
+
+// Some mask is not empty.
+pub fn handles_any(fs: Rights, net: Rights, scope: Rights) -> bool
+    ensures { λ r. ⌜ r ≡ handlesAny (fs .0) (net .0) (scope .0) ⌝ }
+{
+    if !fs.is_empty() {
+        return true;
+    }
+    if !net.is_empty() {
+        return true;
+    }
+    !scope.is_empty()
+}
+
+// The ruleset is open: one of its masks is not zero.
+pub fn ruleset_open(rulesets: &[u64], r: u64) -> bool
+    ensures { λ q. ⌜ q ≡ isOpen (now (rulesets .entry)) r ⌝ }
+{
+    let fs = row_read(rulesets, RULESET_WIDTH, r as usize, 0);
+    let net = row_read(rulesets, RULESET_WIDTH, r as usize, 1);
+    let scope = row_read(rulesets, RULESET_WIDTH, r as usize, 2);
+    handles_any(Rights(fs), Rights(net), Rights(scope))
+}
+
+pub fn thread_live(threads: &[u64], t: u64) -> bool
+    ensures { λ r. ⌜ r ≡ threadLive (now (threads .entry)) t ⌝ }
+{
+    row_read(threads, THREAD_WIDTH, t as usize, 0) != 0
+}
+
+// The thread's youngest layer: its number + 1, or 0 for none.
+pub fn youngest_of(threads: &[u64], t: u64) -> u64
+    ensures { λ r. ⌜ r ≡ youngest (now (threads .entry)) t ⌝ }
+{
+    row_read(threads, THREAD_WIDTH, t as usize, 1)
+}
