@@ -6,7 +6,7 @@ use Rattle.access.specs.Rights.{MAKE_CHAR, MAKE_DIR, MAKE_REG, MAKE_SOCK
 use Rattle.access.specs.declared.kinds.Kind.{Kind}
 use Rattle.access.specs.declared.kinds.Kind.the-variants.{Regular, Directory, Character, Block, Fifo, Socket, Symlink}
 use Rattle.access.specs.declared.kinds.MaybeKind.{MaybeKind}
-use Rattle.access.specs.declared.kinds.MaybeKind.the-variants.{Known, Unknown}
+use Rattle.access.specs.declared.kinds.MaybeKind.the-variants.{Known, None}
 
 -- the number in an entry's first cell; a free row has 0
 abbrev pub kindNumber : Kind → ℕ
@@ -31,7 +31,7 @@ abbrev pub pick : ℕ → Kind → MaybeKind → MaybeKind
 pick n k other = cond (eqb n (kindNumber k)) (Known k) other
 
 unfoldable pub kindOf : ℕ → MaybeKind
-kindOf n = pick n Regular (pick n Directory (pick n Character (pick n Block (pick n Fifo (pick n Socket (pick n Symlink Unknown))))))
+kindOf n = pick n Regular (pick n Directory (pick n Character (pick n Block (pick n Fifo (pick n Socket (pick n Symlink None))))))
 
 -- "MAKE of a kind is its own bit"
 abbrev pub makeRight : Kind → ℕ

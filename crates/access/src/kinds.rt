@@ -13,10 +13,10 @@ pub enum Kind {
     Symlink,
 }
 
-// What a number says of a kind.
+// A kind, or none.
 pub enum MaybeKind {
     Known(Kind),
-    Unknown,
+    None,
 }
 
 impl Kind {
@@ -46,7 +46,7 @@ impl Kind {
             5 => MaybeKind::Known(Kind::Fifo),
             6 => MaybeKind::Known(Kind::Socket),
             7 => MaybeKind::Known(Kind::Symlink),
-            _ => MaybeKind::Unknown,
+            _ => MaybeKind::None,
         }
     }
 

@@ -67,6 +67,10 @@ module _ (xs : List ℕ) (from to : ℕ) where
   pub part-length : to ≤ length xs → length (part xs from to) ≡ to - from
   part-length h = length-take (to - from) (drop from xs) ∙ ap (min (to - from)) (length-drop from xs) ∙ (omega arith)
 
+  -- no more cells than the table
+  pub part-short : length (part xs from to) ≤ length xs
+  part-short = let t = length-take (to - from) (drop from xs) in let d = length-drop from xs in omega arith
+
 -- k cells past a row's start, neither past the table's end
 pub past-start : (m k n s h : ℕ) → s ≡ min m n → h ≡ min k (n - s) → s + h ≡ min (m + k) n
 past-start m k n s h p q = omega arith

@@ -1,14 +1,14 @@
 -- Laws of a run of cells written over others. Assumes nothing.
-use mathlib.Core.Path.{_≡_, refl, ap, _∙_}
+use mathlib.Core.Path.{_≡_, refl, sym, ap, _∙_}
 use mathlib.Core.List.{List}
-use Prim.Native.Nat.{ℕ, zero, suc, _+_, _≤_, _<_}
+use Prim.Native.Nat.{ℕ, zero, suc, _+_, _≤_, _<_, min}
 use native.Mathlib.Nat.{not-suc-le-zero}
 use native.Mathlib.Numerals.{add-one}
 use native.Mathlib.Omega.{arith}
-use lib.Dec.{eqb}
+use lib.Dec.{eqb, ltb}
 use lib.ListN.{length, getD, set, length-set}
 use lib.Seq.{getD-set-same, getD-set-other}
-use borrow.Author.Tests.{eqb-true, eqb-false}
+use borrow.Author.Tests.{eqb-true, eqb-false, ltb-true, ltb-false}
 use Rattle.laws.specs.Cells.{copied}
 use Rattle.laws.proofs.Bools.{split}
 use Rattle.laws.proofs.Cells.{unset}
@@ -52,3 +52,9 @@ module _ (xs : List ℕ) (from : ℕ) (src : List ℕ) where
   unfolding copied
   copied-past zero h = refl
   copied-past (suc n) h = copied-past n h ∙ unset (copied xs from src n) (from + n) (getD src n 0) (rw (length-copied n) (omega arith))
+
+-- from the table's end on as from any place past it
+pub copied-cut : (xs : List ℕ) (m : ℕ) (src : List ℕ) (n from : ℕ) → from ≡ min m (length xs) → copied xs from src n ≡ copied xs m src n
+copied-cut xs m src n from p = split (ltb m (length xs))
+    (λ q. let l = ltb-true m (length xs) q in let e : from ≡ m = omega arith in ap (λ (k : ℕ). copied xs k src n) e)
+    (λ q. let g = ltb-false m (length xs) q in sym (copied-past xs from src n (omega arith)) ∙ copied-past xs m src n g)

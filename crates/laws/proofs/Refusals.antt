@@ -69,6 +69,23 @@ miss-eq {x} {y} p = miss (ap not (eq-eqb x y p))
 
 pub ruleset refusals = (none, hit, miss, hit-by, miss-by, hit-not, miss-not, hit-eq, miss-ne, hit-lt, miss-le, hit-ne, miss-eq)
 
+-- ---- through a number that a function answered: rules to search with beside `refusals`
+module _ {v x y e : ℕ} {cs : List Check} (q : v ≡ x) where
+  pub hit-eq-by : v ≡ y → First ((eqb x y ⇒ e) ∷ cs) e
+  hit-eq-by p = hit-eq (sym q ∙ p)
+
+  pub miss-ne-by : {r : ℕ} → (v ≡ y → ⊥) → First cs r → First ((eqb x y ⇒ e) ∷ cs) r
+  miss-ne-by p = miss-ne (λ z. p (q ∙ z))
+
+  -- a comparison whose opposite is listed
+  pub hit-ge-by : y ≤ v → First ((not (ltb x y) ⇒ e) ∷ cs) e
+  hit-ge-by p = hit (ap not (le-ltb x y (rw q at p)))
+
+  pub miss-lt-by : {r : ℕ} → v < y → First cs r → First ((not (ltb x y) ⇒ e) ∷ cs) r
+  miss-lt-by p = miss (ap not (lt-ltb x y (rw q at p)))
+
+pub ruleset reads = (hit-eq-by, miss-ne-by, hit-ge-by, miss-lt-by)
+
 -- ---- two lists joined
 
 -- no test of the list answers 0

@@ -8,7 +8,7 @@ use Rattle.laws.specs.Refusals.{Check, _⇒_, first}
 use Rattle.laws.proofs.Refusals.{first-is, hit-not}
 use Rattle.access.specs.Errno.{EIO}
 use Rattle.tables.specs.Tables.{Tables}
-use Rattle.tables.specs.Outcome.{Outcome, refused}
+use Rattle.tables.specs.Outcome.{Outcome, refused, answer}
 use Rattle.tables.proofs.Outcomes.{answer-refused, answer-done}
 use Rattle.sound.specs.Sound.{sound}
 use Rattle.sound.specs.Call.{call}
@@ -30,3 +30,8 @@ module _ (T : Tables) (cs : List Check) (done : Outcome) where
   pub call-done : {b : Bool} {e : ℕ} → b ≡ sound T → not b ≡ false → e ≡ first cs → e ≡ 0 → done ≡ call T cs done
   unfolding call
   call-done q p k z = answer-done T (not (sound T) ⇒ EIO ∷ cs) done (past-soundness q p k) z
+
+  -- a function that makes the call's own tests and change
+  pub call-passes : {b : Bool} {o : Outcome} → b ≡ sound T → not b ≡ false → o ≡ answer T cs done → o ≡ call T cs done
+  unfolding call answer first
+  call-passes q p k = rw (← q, p) k

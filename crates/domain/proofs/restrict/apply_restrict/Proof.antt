@@ -1,0 +1,37 @@
+-- Assumes nothing.
+use borrow.Author.Needs.{needs}
+use native.Mathlib.Omega.{arith}
+use Rattle.domain.proofs.Changes.{restricted-by}
+use Rattle.domain.proofs.restrict.apply_restrict.Statement.{statement}
+use Rattle.domain.proofs.restrict.apply_restrict.Tie as tie
+
+pub apply-restrict-spec : {M : Type 1} → statement M
+apply-restrict-spec =
+    tie.close
+    (tie.spec
+    (λ c κs. tt)
+    (λ c κs. tt)
+    (λ c κs. tt)
+    (λ c κs. tt)
+    (λ c κs. tt)
+    (λ c κs. tt)
+    (λ c. search needs)
+    (λ c κs. tt)
+    (λ c κs. tt)
+    (λ c κs. tt)
+    (λ c κs. tt)
+    (λ c κs. let pre = c .before .before .before .before .before .before .before .before .before .before .before .before .before .before .before .before .before .before .before .before .before .before .before .before .before .before .pre in (pre .0, rw (c .before .before .before .before .before .before .before .before .before .before .before .before .row-read4 .ensures) (pre .1)))
+    (λ c. let pre = c .before .before .before .before .before .before .before .before .before .before .before .before .before .before .before .before .before .before .before .before .before .before .before .before .before .before .before .before .before .before .pre in let e = c .before .before .before .before .before .before .before .before .before .before .before .before .before .before .before .before .before .before .before .before .before .before .layers-used .ensures in omega arith)
+    (λ c κs. tt)
+    (λ c. search needs)
+    (λ c. search needs)
+    (λ c. search needs)
+    (λ c. search needs)
+    (λ c.
+    let row = c .before .before in
+    let count = row .before .before .before .before in
+    let put = count .before .before .before .before in
+    let rules = put .before .before .before .before .before .before .before in
+    let read = rules .before .before in
+    restricted-by _ _ _ (read .before .before .before .before .before .before .layers-used .ensures) (read .before .before .before .before .pool-used .ensures) (read .before .before .before .row-read .ensures) (read .before .before .row-read2 .ensures) (read .before .row-read3 .ensures) (read .row-read4 .ensures)
+    (rules .ruleset-rules .ensures) (put .before .youngest-of .ensures) (put .before .before .before .before .before .before .copy .ensures) (put .put-layer .ensures) (count .count-layer .ensures) (row .row-write .ensures)))

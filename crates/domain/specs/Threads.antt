@@ -1,0 +1,53 @@
+-- Document 01, "Clone" and "Mark".
+use mathlib.Core.Bool.{cond, not}
+use mathlib.Core.List.{List, [], _∷_}
+use Prim.Native.Nat.{ℕ}
+use lib.Dec.{eqb, ltb}
+use Rattle.laws.specs.Tests.{firstBelow}
+use Rattle.laws.specs.Refusals.{Check, _⇒_}
+use Rattle.laws.specs.Cells.{putCell}
+use Rattle.access.specs.Errno.{ESRCH, EAGAIN}
+use Rattle.access.specs.Limits.{maxThreads}
+use Rattle.access.specs.declared.errno.Reply.the-variants.{Done}
+use Rattle.tables.specs.Tables.{Tables, threadWidth, youngest, noNewPrivs, admin, threadLive}
+use Rattle.tables.specs.Outcome.{Outcome, outcome, withThreads}
+use Rattle.sound.specs.Call.{call}
+
+-- "the lowest free thread number"
+unfoldable pub freeThread : List ℕ → ℕ
+freeThread ts = firstBelow (λ t. not (threadLive ts t)) maxThreads
+
+-- "ESRCH; none free EAGAIN"
+unfoldable pub cloneChecks : Tables → ℕ → List Check
+cloneChecks T t = not (threadLive (T .threads) t) ⇒ ESRCH ∷ not (ltb (freeThread (T .threads)) maxThreads) ⇒ EAGAIN ∷ []
+
+-- "a copy of domain and marks": a live thread u with those of t
+unfoldable pub copiedThread : List ℕ → ℕ → ℕ → List ℕ
+copiedThread ts u t =
+    let a = putCell ts threadWidth u 0 1 in
+    let b = putCell a threadWidth u 1 (youngest ts t) in
+    let c = putCell b threadWidth u 2 (noNewPrivs ts t) in
+    putCell c threadWidth u 3 (admin ts t)
+
+-- "A success returns the new .. thread number"
+unfoldable pub cloneDone : Tables → ℕ → Outcome
+cloneDone T t = let u = freeThread (T .threads) in outcome (Done u) (withThreads T (copiedThread (T .threads) u t))
+
+unfoldable pub cloned : Tables → ℕ → Outcome
+cloned T t = call T (cloneChecks T t) (cloneDone T t)
+
+-- "ESRCH": the same for both marks
+unfoldable pub markChecks : Tables → ℕ → List Check
+markChecks T t = not (threadLive (T .threads) t) ⇒ ESRCH ∷ []
+
+-- a mark set to a value: cell 2 is no_new_privs, cell 3 admin
+unfoldable pub markDone : Tables → ℕ → ℕ → ℕ → Outcome
+markDone T t k v = outcome (Done 0) (withThreads T (putCell (T .threads) threadWidth t k v))
+
+-- "Mark sets no_new_privs, once for all"
+unfoldable pub privsSet : Tables → ℕ → Outcome
+privsSet T t = call T (markChecks T t) (markDone T t 2 1)
+
+-- "the admin mark is the caller's to set or clear"
+unfoldable pub adminSet : Tables → ℕ → ℕ → Outcome
+adminSet T t on = call T (markChecks T t) (markDone T t 3 (cond (eqb on 0) 0 1))

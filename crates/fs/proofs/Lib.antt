@@ -1,0 +1,2 @@
+-- The laws of moves.
+pub mod Moves

@@ -1,0 +1,4 @@
+-- The laws of a judgement.
+pub mod Climbs
+pub mod Chains
+pub mod Laws

@@ -1,0 +1,4 @@
+-- How a path or a port is judged.
+pub mod Rules
+pub mod Judge
+pub mod Domain

@@ -1,0 +1,87 @@
+// A layer's rules: the part of the pool that holds them, and the rights of a rule.
+use access::rights::Rights;
+use tables::cells::row_read;
+use tables::cells::row_start;
+use tables::rows::LAYER_WIDTH;
+use tables::rows::RULE_WIDTH;
+use tables::rows::RULESET_HEAD;
+use tables::rows::RULESET_WIDTH;
+ghost use mathlib.Core.Path.{_≡_};
+ghost use Prim.Native.Nat.{_*_, _/_, _<_, min};
+ghost use lib.ListN.{length};
+ghost use Rattle.tables.specs.Tables.{ruleWidth};
+ghost use Rattle.tables.specs.Layers.{layerAt, rulesetAt};
+ghost use Rattle.judge.specs.Rules.{isRule, rulePlace, rightsOn};
+
+fn is_rule(rules: &[u64], ty: u64, key: u64, i: usize) -> bool
+    requires { ⌜ i < length (now rules) / ruleWidth ⌝ }
+    ensures { λ r. ⌜ r ≡ isRule (now (rules .entry)) ty key i ⌝ }
+{
+    if rules[3 * i + 1] != key {
+        return false;
+    }
+    rules[3 * i] == ty
+}
+
+// Where the rule for a key stands; the number of rules if there is none.
+pub fn rule_place(rules: &[u64], ty: u64, key: u64) -> usize
+    ensures { λ r. ⌜ r ≡ rulePlace (now (rules .entry)) ty key ⌝ }
+{
+    let n = rules.len() / RULE_WIDTH;
+    let mut i = 0;
+    while i < n {
+        if is_rule(rules, ty, key, i) {
+            return i;
+        }
+        i += 1;
+    }
+    n
+}
+
+// The rights that its rule gives a key; none if there is no rule.
+pub fn rights_on(rules: &[u64], ty: u64, key: u64) -> Rights
+    ensures { λ r. ⌜ r .0 ≡ rightsOn (now (rules .entry)) ty key ⌝ }
+{
+    Rights(row_read(rules, RULE_WIDTH, rule_place(rules, ty, key), 2))
+}
+
+// Three times a number of rules, and at most `most`.
+fn cells_of(count: u64, most: usize) -> usize
+    ensures { λ r. ⌜ r ≡ min (ruleWidth * count) most ⌝ }
+{
+    if count > (most / RULE_WIDTH) as u64 {
+        return most;
+    }
+    RULE_WIDTH * (count as usize)
+}
+
+// A layer's rules: its part of the pool, as much of it as the pool has.
+pub fn layer_rules<'a>(layers: &[u64], pool: &'a [u64], l: u64) -> &'a [u64]
+    ensures { λ r. ⌜ now r ≡ layerAt (now (layers .entry)) (now (pool .entry)) l .rules ⌝ }
+{
+    let from = cells_of(row_read(layers, LAYER_WIDTH, l as usize, 4), pool.len());
+    let more = cells_of(
+        row_read(layers, LAYER_WIDTH, l as usize, 5),
+        pool.len() - from,
+    );
+    let to = from + more;
+    &pool[from..to]
+}
+
+fn smaller(a: usize, b: usize) -> usize
+    ensures { λ r. ⌜ r ≡ min a b ⌝ }
+{
+    if a < b { a } else { b }
+}
+
+// A ruleset's rules: their part of the row, as much of it as the table has.
+pub fn ruleset_rules<'a>(rulesets: &'a [u64], r: u64) -> &'a [u64]
+    ensures { λ q. ⌜ now q ≡ rulesetAt (now (rulesets .entry)) r .rules ⌝ }
+{
+    let start = row_start(rulesets.len(), RULESET_WIDTH, r as usize);
+    let from = start + smaller(RULESET_HEAD, rulesets.len() - start);
+    let count = row_read(rulesets, RULESET_WIDTH, r as usize, 3);
+    let more = cells_of(count, rulesets.len() - from);
+    let to = from + more;
+    &rulesets[from..to]
+}

@@ -1,0 +1,2 @@
+-- Port requests.
+pub mod Port

@@ -1,0 +1,2 @@
+-- The laws of adding a rule.
+pub mod Adding

@@ -1,0 +1,2 @@
+-- Adding a rule to a ruleset: when it is refused, in document 01's order, and what it does.
+pub mod Rule

@@ -1,0 +1,2 @@
+-- The laws of an attribute's bytes.
+pub mod Numbers

@@ -1,0 +1,23 @@
+-- Assumes nothing.
+use borrow.Author.Needs.{needs}
+use Rattle.tables.proofs.Outcomes.{answer-refused, answer-done}
+use Rattle.ruleset.specs.Create.{createDone}
+use Rattle.ruleset.proofs.create.create.Statement.{statement}
+use Rattle.ruleset.proofs.create.create.Tie as tie
+
+pub create-spec : {M : Type 1} → statement M
+unfolding createDone
+create-spec =
+    tie.close
+    (tie.spec
+    (λ c κs. tt)
+    (λ c. search needs)
+    (λ c. answer-refused _ _ _ (c .before .create-checks .ensures) (c .if1 .taken))
+    (λ c κs. tt)
+    (λ c κs. tt)
+    (λ c. search needs)
+    (λ c.
+    let a = c .before .before in
+    let r = a .before .before in
+    let t = r .before .before in
+    rw (a .apply-create .ensures, r .free-ruleset .ensures) (answer-done _ _ _ (t .before .create-checks .ensures) (t .if1 .left))))
