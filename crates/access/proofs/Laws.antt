@@ -8,7 +8,7 @@ use lib.Arith.{bin-ind}
 use lib.Dec.{eqb}
 use lib.Bits.{bitAnd, bitOr, bitXor, differ, and-step, or-step, xor-step, and-shr, or-shr, xor-shr}
 use borrow.Author.Tests.{eqb-true, eq-eqb, eqb-false}
-use Rattle.laws.proofs.Bools.{split}
+use Rattle.laws.proofs.Bools.{split, either, or-cases, or-left, clash}
 use Rattle.access.specs.Rights.{has, join, meet, without, within, only}
 
 -- an operation f on digits does what g does on Booleans
@@ -161,3 +161,13 @@ some-bit =
     let o = eqb-false (n % 2) 1 q in
     let s = ih (λ e. d (omega arith)) in
     (suc (s .0), ap (λ (k : ℕ). eqb k 1) (sym (bit-suc n (s .0))) ∙ s .1)))
+
+-- a join is within what both sets are within, and not empty
+pub within-join : (a b m : ℕ) → within a m ≡ true → within b m ≡ true → within (join a b) m ≡ true
+within-join a b m p q = has-within (join a b) m (λ i h. either (or-cases (has a i) (has b i) (sym (has-join a b i) ∙ h)) (within-has a m i p) (within-has b m i q))
+
+pub join-some : (a b : ℕ) → (a ≡ 0 → ⊥) → join a b ≡ 0 → ⊥
+join-some a b d e =
+    let s = some-bit a d in
+    let i = s .0 in
+    clash (has (join a b) i) (has-join a b i ∙ or-left (has a i) (has b i) (s .1)) (ap (λ (m : ℕ). has m i) e ∙ has-none i)

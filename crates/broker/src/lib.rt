@@ -4,13 +4,47 @@ use access::errno::Reply;
 use access::rights::Rights;
 ghost use mathlib.Core.Path.{_≡_};
 ghost use Rattle.tables.specs.Tables.{before, after};
+ghost use Rattle.tables.specs.Fresh.{freshened};
 ghost use Rattle.tables.specs.Outcome.{outcome};
 ghost use Rattle.ruleset.specs.Create.{created, closed};
 ghost use Rattle.rule.specs.Rule.{pathAdded, portAdded};
 ghost use Rattle.domain.specs.Restrict.{restrictCall};
+ghost use Rattle.domain.specs.Layer.{layerCode, layerPart};
 ghost use Rattle.domain.specs.Threads.{cloned, privsSet, adminSet};
 ghost use Rattle.fs.specs.Access.{accessCall};
 ghost use Rattle.net.specs.Port.{portCall};
+
+// Makes fresh tables at a level, whatever they held: EIO for a wrong length, EINVAL for a level above 6.
+pub fn fresh(
+    system: &mut [u64],
+    entries: &mut [u64],
+    rulesets: &mut [u64],
+    layers: &mut [u64],
+    pool: &mut [u64],
+    threads: &mut [u64],
+    level: u64,
+) -> Reply
+    ensures { λ answer. ⌜ outcome answer (after system entries rulesets layers pool threads) ≡ freshened (before system entries rulesets layers pool threads) level ⌝ }
+{
+    tables::fresh::fresh(system, entries, rulesets, layers, pool, threads, level)
+}
+
+// One layer's rules, as a part of the pool: `code` becomes 0, or EIO or EBADF with an empty part.
+pub fn layer_rules<'a>(
+    system: &[u64],
+    entries: &[u64],
+    rulesets: &[u64],
+    layers: &[u64],
+    pool: &'a [u64],
+    threads: &[u64],
+    l: u64,
+    code: &mut u64,
+) -> &'a [u64]
+    ensures part { λ r. ⌜ now r ≡ layerPart (before system entries rulesets layers pool threads) l ⌝ }
+    ensures answer { λ r. ⌜ now (code .exit) ≡ layerCode (before system entries rulesets layers pool threads) l ⌝ }
+{
+    domain::layer::layer_rules(system, entries, rulesets, layers, pool, threads, l, code)
+}
 
 // Opens a ruleset: EIO, EOPNOTSUPP, EINVAL, E2BIG, EINVAL, ENOMSG, EMFILE. Answers its number.
 pub fn create_ruleset(

@@ -3,7 +3,9 @@ use mathlib.Core.Path.{_≡_, refl}
 use mathlib.Core.Bool.{Bool, true, false, not}
 use mathlib.Core.List.{List, _∷_}
 use Prim.Native.Nat.{ℕ}
-use borrow.Author.Tests.{eqb-false}
+use lib.Dec.{eqb}
+use borrow.Author.Tests.{eqb-true, eqb-false}
+use Rattle.laws.proofs.Bools.{split}
 use Rattle.laws.specs.Refusals.{Check, _⇒_, first}
 use Rattle.laws.proofs.Refusals.{first-is, hit-not}
 use Rattle.access.specs.Errno.{EIO}
@@ -35,3 +37,8 @@ module _ (T : Tables) (cs : List Check) (done : Outcome) where
   pub call-passes : {b : Bool} {o : Outcome} → b ≡ sound T → not b ≡ false → o ≡ answer T cs done → o ≡ call T cs done
   unfolding call answer first
   call-passes q p k = rw (← q, p) k
+
+  -- what is to be shown so that a call keeps sound tables sound
+  pub kept-call : (first cs ≡ 0 → sound (done .left) ≡ true) → sound T ≡ true → sound (call T cs done .left) ≡ true
+  unfolding call answer first
+  kept-call f h = split (eqb (first cs) 0) (λ q. rw (h, q) (f (eqb-true (first cs) 0 q))) (λ q. rw (h, q) h)

@@ -20,8 +20,15 @@ apply-restrict-spec =
     (λ c κs. tt)
     (λ c κs. tt)
     (λ c κs. tt)
-    (λ c κs. let pre = c .before .before .before .before .before .before .before .before .before .before .before .before .before .before .before .before .before .before .before .before .before .before .before .before .before .before .pre in (pre .0, rw (c .before .before .before .before .before .before .before .before .before .before .before .before .row-read4 .ensures) (pre .1)))
-    (λ c. let pre = c .before .before .before .before .before .before .before .before .before .before .before .before .before .before .before .before .before .before .before .before .before .before .before .before .before .before .before .before .before .before .pre in let e = c .before .before .before .before .before .before .before .before .before .before .before .before .before .before .before .before .before .before .before .before .before .before .layers-used .ensures in omega arith)
+    (λ c κs.
+    let read = c .before .before .before .before .before .before .before .before .before .before .before .before in
+    let pre = read .before .before .before .before .before .before .before .before .before .before .before .before .before .before .pre in
+    (pre .0, rw (read .row-read4 .ensures) (pre .1)))
+    (λ c.
+    let used = c .before .before .before .before .before .before .before .before .before .before .before .before .before .before .before .before .before .before .before .before .before .before in
+    let e = used .layers-used .ensures in
+    let pre = used .before .before .before .before .before .before .before .before .pre in
+    omega arith)
     (λ c κs. tt)
     (λ c. search needs)
     (λ c. search needs)

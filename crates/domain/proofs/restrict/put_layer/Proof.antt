@@ -1,7 +1,7 @@
 -- Assumes nothing.
 use mathlib.Core.Logic.{⊎-elim}
 use borrow.Author.Needs.{needs}
-use Rattle.domain.proofs.Answers.{chosen-first, chosen-second}
+use Rattle.domain.proofs.Choices.{chosen-first, chosen-second}
 use Rattle.domain.proofs.Changes.{row-by}
 use Rattle.domain.proofs.restrict.put_layer.Statement.{statement}
 use Rattle.domain.proofs.restrict.put_layer.Tie as tie
@@ -19,7 +19,11 @@ put-layer-spec =
     (λ c. search needs)
     (λ c.
     let v = c .before .before .before .before .before .before .before in
-    let a = v .before .before .before .before .before .before .before .before .before .before .before .before .before .before .before .before .before .before .before .args in
-    row-by _ _ _ _ _ _ (a .first) (a .count) (v .before .before .before .before .before .before .before .before .before .before .before .before .before .before .before .before .row-write .ensures) (v .before .before .before .before .before .before .before .before .before .before .before .before .row-write2 .ensures) (v .before .before .before .before .before .before .before .before .row-write3 .ensures) (v .before .before .before .before .row-write4 .ensures)
+    let fourth = v .before .before .before .before in
+    let third = fourth .before .before .before .before in
+    let second = third .before .before .before .before in
+    let one = second .before .before .before .before in
+    let a = one .before .before .before .args in
+    row-by _ _ _ _ _ _ (a .first) (a .count) (one .row-write .ensures) (second .row-write2 .ensures) (third .row-write3 .ensures) (fourth .row-write4 .ensures)
     (⊎-elim (λ w. chosen-first (a .count) 0 (a .first) (w .0 .taken) (w .1)) (λ w. chosen-second (a .count) 0 (a .first) (w .0 .left) (w .1)) (v .if1 .came))
     (c .before .before .before .before .before .before .row-write5 .ensures) (c .before .before .row-write6 .ensures)))

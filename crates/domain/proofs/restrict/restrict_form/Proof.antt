@@ -1,7 +1,6 @@
 -- Assumes nothing.
-use Rattle.laws.proofs.Refusals.{first-is, refusals}
+use Rattle.laws.proofs.Refusals.{first-is, refusals, reads}
 use Rattle.domain.specs.Restrict.{restrictForm}
-use Rattle.domain.proofs.Answers.{answers}
 use Rattle.domain.proofs.restrict.restrict_form.Statement.{statement}
 use Rattle.domain.proofs.restrict.restrict_form.Tie as tie
 
@@ -13,8 +12,8 @@ restrict-form-spec =
     (λ c κs. tt)
     (λ c. first-is (search refusals depth 16))
     (λ c κs. tt)
-    (λ c. first-is (search (answers, refusals) depth 16))
+    (λ c. first-is (search (reads, refusals) depth 16))
     (λ c κs. tt)
-    (λ c. first-is (search (answers, refusals) depth 16))
-    (λ c. first-is (search (answers, refusals) depth 16))
-    (λ c. first-is (search (answers, refusals) depth 16)))
+    (λ c. first-is (search (reads, refusals) depth 16))
+    (λ c. first-is (search (reads, refusals) depth 16))
+    (λ c. first-is (search (reads, refusals) depth 16)))

@@ -1,7 +1,6 @@
 -- Assumes nothing.
-use Rattle.laws.proofs.Refusals.{first-is, refusals}
+use Rattle.laws.proofs.Refusals.{first-is, refusals, reads}
 use Rattle.domain.specs.Threads.{cloneChecks}
-use Rattle.domain.proofs.Answers.{answers}
 use Rattle.domain.proofs.threads.clone_checks.Statement.{statement}
 use Rattle.domain.proofs.threads.clone_checks.Tie as tie
 
@@ -13,5 +12,5 @@ clone-checks-spec =
     (λ c κs. tt)
     (λ c. first-is (search refusals depth 16))
     (λ c κs. tt)
-    (λ c. first-is (search (answers, refusals) depth 16))
-    (λ c. first-is (search (answers, refusals) depth 16)))
+    (λ c. first-is (search (reads, refusals) depth 16))
+    (λ c. first-is (search (reads, refusals) depth 16)))

@@ -4,7 +4,7 @@ use mathlib.Core.Bool.{cond}
 use mathlib.Core.Logic.{⊎-elim}
 use borrow.Author.Needs.{needs}
 use lib.Dec.{eqb}
-use Rattle.domain.proofs.Answers.{chosen-first, chosen-second}
+use Rattle.domain.proofs.Choices.{chosen-first, chosen-second}
 use Rattle.domain.proofs.threads.set_admin.Statement.{statement}
 use Rattle.domain.proofs.threads.set_admin.Tie as tie
 

@@ -1,0 +1,1 @@
+// No code: theorems that the calls on threads and layers keep sound tables sound.

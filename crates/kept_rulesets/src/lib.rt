@@ -1,0 +1,1 @@
+// No code: theorems that the calls on rulesets keep sound tables sound.

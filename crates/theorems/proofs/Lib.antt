@@ -1,0 +1,2 @@
+-- What holds of all calls.
+pub mod Kept

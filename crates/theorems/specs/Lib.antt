@@ -1,0 +1,2 @@
+-- Every call in one type.
+pub mod Calls
