@@ -1,5 +1,6 @@
 // A layer's rules: the part of the pool that holds them, and the rights of a rule.
 use access::rights::Rights;
+use tables::cells::read;
 use tables::cells::row_read;
 use tables::cells::row_start;
 use tables::rows::LAYER_WIDTH;
@@ -42,7 +43,8 @@ pub fn rule_place(rules: &[u64], ty: u64, key: u64) -> usize
 pub fn rights_on(rules: &[u64], ty: u64, key: u64) -> Rights
     ensures { λ r. ⌜ r .0 ≡ rightsOn (now (rules .entry)) ty key ⌝ }
 {
-    Rights(row_read(rules, RULE_WIDTH, rule_place(rules, ty, key), 2))
+    let i = rule_place(rules, ty, key);
+    Rights(read(rules, RULE_WIDTH * i + 2))
 }
 
 // Three times a number of rules, and at most `most`.

@@ -9,7 +9,9 @@ use access::limits::MAX_RULESETS;
 use access::limits::MAX_THREADS;
 use access::rights::Rights;
 ghost use mathlib.Core.Path.{_≡_};
-ghost use Rattle.tables.specs.Tables.{before, lengthsRight, level, counter, layersUsed, poolUsed, kind, parent, object, live, isDir, pastFileSet, youngest, threadLive};
+ghost use Prim.Native.Nat.{_<_};
+ghost use Rattle.laws.specs.Cells.{cell};
+ghost use Rattle.tables.specs.Tables.{entryWidth, before, lengthsRight, level, counter, layersUsed, poolUsed, kind, parent, object, live, isDir, pastFileSet, youngest, threadLive};
 ghost use Rattle.tables.specs.Layers.{handlesAny, isOpen};
 
 pub const SYSTEM_WIDTH: usize = 4;
@@ -100,22 +102,37 @@ pub fn pool_used(system: &[u64]) -> u64
     read(system, 3)
 }
 
+// Cell `k` of an entry.
+fn entry_cell(entries: &[u64], e: u64, k: usize) -> u64
+    requires { ⌜ k < entryWidth ⌝ }
+    ensures { λ r. ⌜ r ≡ cell (now (entries .entry)) entryWidth e k ⌝ }
+{
+    let i = e as usize;
+    if i < entries.len() {
+        let at = ENTRY_WIDTH * i + k;
+        if at < entries.len() {
+            return entries[at];
+        }
+    }
+    0
+}
+
 pub fn kind_of(entries: &[u64], e: u64) -> u64
     ensures { λ r. ⌜ r ≡ kind (now (entries .entry)) e ⌝ }
 {
-    row_read(entries, ENTRY_WIDTH, e as usize, 0)
+    entry_cell(entries, e, 0)
 }
 
 pub fn parent_of(entries: &[u64], e: u64) -> u64
     ensures { λ r. ⌜ r ≡ parent (now (entries .entry)) e ⌝ }
 {
-    row_read(entries, ENTRY_WIDTH, e as usize, 1)
+    entry_cell(entries, e, 1)
 }
 
 pub fn object_of(entries: &[u64], e: u64) -> u64
     ensures { λ r. ⌜ r ≡ object (now (entries .entry)) e ⌝ }
 {
-    row_read(entries, ENTRY_WIDTH, e as usize, 2)
+    entry_cell(entries, e, 2)
 }
 
 pub fn entry_live(entries: &[u64], e: u64) -> bool

@@ -1,0 +1,44 @@
+// What the benchmark in rust/bench measures, exported for it: the rule scan, the climb and the soundness test.
+use access::limits::MAX_ENTRIES;
+use access::rights::Rights;
+use tables::rows::PATH_RULE;
+ghost use mathlib.Core.Path.{_≡_};
+ghost use mathlib.Core.Bool.{cond};
+ghost use Rattle.access.specs.Rights.{without};
+ghost use Rattle.access.specs.Limits.{maxEntries};
+ghost use Rattle.tables.specs.Tables.{before, pathRule};
+ghost use Rattle.judge.specs.Rules.{rightsOn};
+ghost use Rattle.judge.specs.Judge.{grants};
+ghost use Rattle.sound.specs.Sound.{sound};
+
+#[no_mangle]
+pub extern "C" fn skein_bench_rights_on(rules: &[u64], object: u64) -> u64
+    ensures { λ r. ⌜ r ≡ rightsOn (now (rules .entry)) pathRule object ⌝ }
+{
+    judge::rules::rights_on(rules, PATH_RULE, object).0
+}
+
+#[no_mangle]
+pub extern "C" fn skein_bench_missing(entries: &[u64], rules: &[u64], e: u64, asked: u64) -> u64
+    ensures { λ r. ⌜ r ≡ without asked (grants (now (entries .entry)) (now (rules .entry)) maxEntries e) ⌝ }
+{
+    judge::climb::missing_up(entries, rules, e, Rights(asked), MAX_ENTRIES).0
+}
+
+#[no_mangle]
+pub extern "C" fn skein_bench_sound(
+    system: &[u64],
+    entries: &[u64],
+    rulesets: &[u64],
+    layers: &[u64],
+    pool: &[u64],
+    threads: &[u64],
+) -> u64
+    ensures { λ r. ⌜ r ≡ cond (sound (before system entries rulesets layers pool threads)) 1 0 ⌝ }
+{
+    if sound::is_sound(system, entries, rulesets, layers, pool, threads) {
+        1
+    } else {
+        0
+    }
+}

@@ -1,0 +1,13 @@
+// Links the archive that `rt staticlib bench_exports` writes.
+use std::path::Path;
+
+fn main() {
+    let dir = Path::new(env!("CARGO_MANIFEST_DIR")).join("../../target/staticlib");
+    let archive = dir.join("libbench_exports.a");
+    println!("cargo:rerun-if-changed={}", archive.display());
+    if !archive.exists() {
+        panic!("the archive is missing: run `rt staticlib bench_exports` at the top of the repository first");
+    }
+    println!("cargo:rustc-link-search=native={}", dir.display());
+    println!("cargo:rustc-link-lib=static=bench_exports");
+}
