@@ -6,7 +6,6 @@ mod layers;
 mod limits;
 mod rulesets;
 mod system;
-mod text;
 mod threads;
 
 fn main() {

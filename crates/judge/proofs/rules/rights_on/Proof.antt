@@ -1,5 +1,5 @@
 -- Assumes nothing.
-use mathlib.Core.Path.{_≡_, ap, _∙_}
+use mathlib.Core.Path.{ap, _∙_}
 use Prim.Native.Nat.{ℕ, _+_, _*_, _/_, _≤_}
 use native.Mathlib.Omega.{arith}
 use lib.ListN.{length, getD}
@@ -24,5 +24,5 @@ rights-on-spec =
     (λ c. let h = small c in omega arith)
     (λ c κs. tt)
     (λ c.
-      let a = c .before .before .before .args in
-      c .read .ensures ∙ ap (λ (i : ℕ). getD (a .rules .now) (ruleWidth * i + 2) 0) (c .before .rule-place .ensures)))
+    let a = c .before .before .before .args in
+    c .read .ensures ∙ ap (λ (i : ℕ). getD (a .rules .now) (ruleWidth * i + 2) 0) (c .before .rule-place .ensures)))

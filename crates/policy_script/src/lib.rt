@@ -1,0 +1,3 @@
+// Cases of the broker played by words.
+mod calls;
+pub mod words;
