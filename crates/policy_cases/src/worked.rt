@@ -1,4 +1,4 @@
-// The worked examples of the specification.
+// Document 01's worked cases that leave the tree alone, and what they turn on.
 use crate::play::run;
 
 pub fn cases() {

@@ -15,21 +15,29 @@ use Rattle.kept_rulesets.proofs.Create.{kept-created, kept-closed}
 use Rattle.kept_rulesets.proofs.Add.{kept-path-added, kept-port-added}
 use Rattle.kept_domains.proofs.Marks.{kept-cloned, kept-privs-set, kept-admin-set}
 use Rattle.kept_domains.proofs.Restrict.{kept-restricted}
-use Rattle.theorems.specs.Calls.{Call, create-ruleset, close-ruleset, add-path-rule, add-port-rule, restrict, layer-rules, clone, set-no-new-privs, set-admin, access, port, after, afterAll}
+use Rattle.kept_tree.proofs.Fill as fill
+use Rattle.kept_tree.proofs.Clear.{kept-removed}
+use Rattle.kept_tree.proofs.Move.{kept-renamed, kept-exchanged}
+use Rattle.theorems.specs.Calls.{Call, create-ruleset, close-ruleset, add-path-rule, add-port-rule, restrict, layer-rules, clone, set-no-new-privs, set-admin, access, port, create, remove, link, rename, exchange, outcomeOf, after, afterAll}
 
 pub kept : (T : Tables) (c : Call) → sound T ≡ true → sound (after T c) ≡ true
-unfolding after accessCall portCall
+unfolding outcomeOf accessCall portCall
 kept T (create-ruleset bs flags) h = kept-created T bs flags h
 kept T (close-ruleset r) h = kept-closed T r h
 kept T (add-path-rule r e rights flags) h = kept-path-added T r e rights flags h
 kept T (add-port-rule r p rights flags) h = kept-port-added T r p rights flags h
 kept T (restrict t r flags) h = kept-restricted T t r flags h
-kept T (layer-rules l) h = h
+kept T (layer-rules l) h = kept-call T _ _ (λ z. h) h
 kept T (clone t) h = kept-cloned T t h
 kept T (set-no-new-privs t) h = kept-privs-set T t h
 kept T (set-admin t on) h = kept-admin-set T t on h
 kept T (access t e m) h = kept-call T _ _ (λ z. h) h
 kept T (port t p m) h = kept-call T _ _ (λ z. h) h
+kept T (create t d k) h = fill.kept-created T t d k h
+kept T (remove t e) h = kept-removed T t e h
+kept T (link t s d) h = fill.kept-linked T t s d h
+kept T (rename t s d x) h = kept-renamed T t s d x h
+kept T (exchange t s d x) h = kept-exchanged T t s d x h
 
 pub kept-all : (T : Tables) (cs : List Call) → sound T ≡ true → sound (afterAll T cs) ≡ true
 unfolding afterAll

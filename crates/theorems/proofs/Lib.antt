@@ -1,2 +1,13 @@
 -- What holds of all calls.
 pub mod Kept
+pub mod Chains
+pub mod Stays
+pub mod Ports
+pub mod Links
+pub mod Shut
+pub mod Edits
+pub mod Contained
+pub mod Steps
+pub mod Denied
+pub mod Assembly
+pub mod Demand3

@@ -1,2 +1,3 @@
--- Every call in one type.
+-- Every call in one type, and demand 3.
 pub mod Calls
+pub mod Claim

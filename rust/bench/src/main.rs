@@ -3,8 +3,8 @@ use std::hint::black_box;
 use std::time::Instant;
 
 extern "C" {
-    fn skein_bench_rights_on(rules: *const u64, rules_len: usize, object: u64) -> u64;
-    fn skein_bench_missing(
+    fn skein_measure_rights_on(rules: *const u64, rules_len: usize, object: u64) -> u64;
+    fn skein_measure_missing(
         entries: *const u64,
         entries_len: usize,
         rules: *const u64,
@@ -12,7 +12,7 @@ extern "C" {
         e: u64,
         asked: u64,
     ) -> u64;
-    fn skein_bench_sound(
+    fn skein_measure_sound(
         system: *const u64,
         system_len: usize,
         entries: *const u64,
@@ -31,12 +31,12 @@ extern "C" {
 const PATH: u64 = 1;
 
 fn core_rights_on(rules: &[u64], object: u64) -> u64 {
-    unsafe { skein_bench_rights_on(rules.as_ptr(), rules.len(), object) }
+    unsafe { skein_measure_rights_on(rules.as_ptr(), rules.len(), object) }
 }
 
 fn core_missing(entries: &[u64], rules: &[u64], e: u64, asked: u64) -> u64 {
     unsafe {
-        skein_bench_missing(entries.as_ptr(), entries.len(), rules.as_ptr(), rules.len(), e, asked)
+        skein_measure_missing(entries.as_ptr(), entries.len(), rules.as_ptr(), rules.len(), e, asked)
     }
 }
 
@@ -117,7 +117,7 @@ fn sound_time(name: &str, entries: &[u64]) {
     let mut threads = vec![0u64; 32];
     threads[0] = 1;
     let (ns, sum) = measure(20, |_| unsafe {
-        skein_bench_sound(
+        skein_measure_sound(
             system.as_ptr(),
             system.len(),
             entries.as_ptr(),

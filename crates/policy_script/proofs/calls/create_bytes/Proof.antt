@@ -1,4 +1,4 @@
--- Each table is as long as it was: every call that is lent it keeps its length. Assumes nothing.
+-- Each table is as long as it was: every call that takes it keeps its length. Assumes nothing.
 use mathlib.Core.Path.{refl, sym, _∙_}
 use Rattle.policy_script.proofs.calls.create_bytes.Statement.{statement}
 use Rattle.policy_script.proofs.calls.create_bytes.Tie as tie

@@ -1,4 +1,4 @@
--- Each table is as long as it was: every call that is lent it keeps its length. Assumes nothing.
+-- Each table is as long as it was: every call that takes it keeps its length. Assumes nothing.
 use Rattle.policy_script.proofs.calls.rulesets_call.Statement.{statement}
 use Rattle.policy_script.proofs.calls.rulesets_call.Tie as tie
 

@@ -1,4 +1,4 @@
--- Each table is as long as it was made: every call that is lent it keeps its length. Assumes nothing.
+-- Each table is as long as it was made: every call that takes it keeps its length. Assumes nothing.
 use mathlib.Core.Path.{refl, sym, _∙_}
 use Rattle.soundness_cases.proofs.build.case.Statement.{statement}
 use Rattle.soundness_cases.proofs.build.case.Tie as tie

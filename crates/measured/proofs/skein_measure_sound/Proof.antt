@@ -1,10 +1,10 @@
 -- Assumes nothing.
 use mathlib.Core.Path.{sym, _∙_}
-use Rattle.bench_exports.proofs.skein_bench_sound.Statement.{statement}
-use Rattle.bench_exports.proofs.skein_bench_sound.Tie as tie
+use Rattle.measured.proofs.skein_measure_sound.Statement.{statement}
+use Rattle.measured.proofs.skein_measure_sound.Tie as tie
 
-pub skein-bench-sound-spec : {M : Type 1} → statement M
-skein-bench-sound-spec =
+pub skein-measure-sound-spec : {M : Type 1} → statement M
+skein-measure-sound-spec =
     tie.close
     (tie.spec
     (λ c κs. tt)

@@ -12,21 +12,21 @@ ghost use Rattle.judge.specs.Judge.{grants};
 ghost use Rattle.sound.specs.Sound.{sound};
 
 #[no_mangle]
-pub extern "C" fn skein_bench_rights_on(rules: &[u64], object: u64) -> u64
+pub extern "C" fn skein_measure_rights_on(rules: &[u64], object: u64) -> u64
     ensures { λ r. ⌜ r ≡ rightsOn (now (rules .entry)) pathRule object ⌝ }
 {
     judge::rules::rights_on(rules, PATH_RULE, object).0
 }
 
 #[no_mangle]
-pub extern "C" fn skein_bench_missing(entries: &[u64], rules: &[u64], e: u64, asked: u64) -> u64
+pub extern "C" fn skein_measure_missing(entries: &[u64], rules: &[u64], e: u64, asked: u64) -> u64
     ensures { λ r. ⌜ r ≡ without asked (grants (now (entries .entry)) (now (rules .entry)) maxEntries e) ⌝ }
 {
     judge::climb::missing_up(entries, rules, e, Rights(asked), MAX_ENTRIES).0
 }
 
 #[no_mangle]
-pub extern "C" fn skein_bench_sound(
+pub extern "C" fn skein_measure_sound(
     system: &[u64],
     entries: &[u64],
     rulesets: &[u64],

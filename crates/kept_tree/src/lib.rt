@@ -1,0 +1,1 @@
+// No code: theorems that the calls that change the tree keep sound tables sound.

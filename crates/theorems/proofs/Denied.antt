@@ -1,0 +1,161 @@
+-- A right that a layer denies an entry stays denied through a call from a thread that the layer binds; and what it denies an entry, it denies a new link of it. Assumes nothing.
+use mathlib.Core.Path.{_≡_, refl, sym, ap, _∙_}
+use mathlib.Core.Bool.{Bool, true, false, _&&_}
+use mathlib.Core.List.{List, [], _∷_}
+use mathlib.Core.Logic.{_⊎_, inl, inr}
+use Prim.Native.Nat.{ℕ, _+_, _*_, _<_}
+use native.Mathlib.Omega.{arith}
+use lib.Dec.{eqb}
+use lib.ListN.{length}
+use borrow.Author.Tests.{eqb-true, eqb-false, ltb-true, not-false}
+use Rattle.laws.specs.Refusals.{first}
+use Rattle.laws.specs.Tests.{any, elem}
+use Rattle.laws.proofs.Bools.{split, either}
+use Rattle.laws.proofs.Refusals.{passed}
+use Rattle.access.specs.Limits.{maxEntries}
+use Rattle.access.specs.Rights.{has}
+use Rattle.access.specs.declared.errno.Reply.the-variants.{Done, Refused}
+use Rattle.access.specs.declared.kinds.MaybeKind.the-variants.{None}
+use Rattle.tables.specs.Tables.{Tables, counter, kind, parent, object, live, isDir}
+use Rattle.tables.specs.Layers.{layerAt}
+use Rattle.tables.specs.Outcome.{Outcome, outcome, refused}
+use Rattle.sound.specs.Sound.{sound}
+use Rattle.sound.specs.Call.{call}
+use Rattle.sound.proofs.Facts.{facts}
+use Rattle.sound.proofs.Calls.{call-done, call-refused}
+use Rattle.judge.specs.Judge.{denied, handled}
+use Rattle.fs.specs.Move.{entryRights, layerCrosses, verdict}
+use Rattle.fs.specs.declared.needs.Step.the-variants.{Link}
+use Rattle.tree.specs.Entries.{freeEntry, withEntries}
+use Rattle.tree.specs.Moves.{linkMove}
+use Rattle.tree.specs.Link.{linkShape, linkVerdict, linkLater, linkChecks, linked, treeLink}
+use Rattle.theorems.specs.Calls.{Call, link, outcomeOf, after, reply, caller, frees, wouldFree, isDone}
+use Rattle.theorems.specs.Claim.{domainOf, ChangesTree}
+use Rattle.theorems.proofs.Shut.{gives, Shut, shut-here, shut-cons, denied-handled, denied-shut, shut-denied, dir-live, dir-holds, live-same, still-shut}
+use Rattle.kept_tree.proofs.Written.{parent-put, object-put}
+use Rattle.theorems.proofs.Contained.{shut-there}
+use Rattle.theorems.proofs.Steps.{step}
+
+-- what a call does not free stays, with its kind and its object
+pub kept-entry : (T : Tables) (c : Call) (e : ℕ) → sound T ≡ true → live (T .entries) e ≡ true → frees T c e ≡ false
+    → (live ((after T c) .entries) e ≡ true) × (kind ((after T c) .entries) e ≡ kind (T .entries) e) × (object ((after T c) .entries) e ≡ object (T .entries) e)
+kept-entry T c e s l g =
+    let F = step T s c .frame in
+    let k = F .keeps-kind e l g in
+    (live-same (T .entries) ((after T c) .entries) e k l, k, F .keeps-object e l g)
+
+-- two lists are the same or not
+same? : (xs ys : List ℕ) → (xs ≡ ys) ⊎ (xs ≡ ys → ⊥)
+same? [] [] = inl refl
+same? [] (y ∷ ys) = inr (λ e. let z : _≡_ {A = ℕ} 0 1 = cc in omega arith)
+same? (x ∷ xs) [] = inr (λ e. let z : _≡_ {A = ℕ} 0 1 = cc in omega arith)
+same? (x ∷ xs) (y ∷ ys) = split (eqb x y)
+    (λ q. either (same? xs ys)
+    (λ e. let p = eqb-true x y q in inl cc)
+    (λ n. inr (λ e. n cc)))
+    (λ q. inr (λ e. eqb-false x y q cc))
+
+-- shut before, shut after
+still : (T : Tables) (c : Call) (l e i : ℕ) → sound T ≡ true → elem l (domainOf T (caller c)) ≡ true → live (T .entries) e ≡ true → frees T c e ≡ false
+    → has (entryRights (T .entries) e) i ≡ true → has (handled (layerAt (T .layers) (T .pool) l)) i ≡ true
+    → Shut (T .entries) (gives (layerAt (T .layers) (T .pool) l) i) e → Shut ((after T c) .entries) (gives (layerAt (T .layers) (T .pool) l) i) e
+still T c l e i s m a g r hd h =
+    let S = step T s c in
+    still-shut (T .entries) ((after T c) .entries) (frees T c) (gives (layerAt (T .layers) (T .pool) l) i) i (S .frame) (S .above l i m hd) e a g r h
+
+pub denied-kept : (T : Tables) (c : Call) (l e i : ℕ) → sound T ≡ true → (ChangesTree T c → elem l (domainOf T (caller c)) ≡ true)
+    → live (T .entries) e ≡ true → frees T c e ≡ false → has (entryRights (T .entries) e) i ≡ true
+    → has (denied (T .entries) (layerAt (T .layers) (T .pool) l) e) i ≡ true → has (denied ((after T c) .entries) (layerAt (T .layers) (T .pool) l) e) i ≡ true
+unfolding ChangesTree
+denied-kept T c l e i s w a g r h =
+    let es = T .entries in
+    let L = layerAt (T .layers) (T .pool) l in
+    either (same? ((after T c) .entries) es)
+    (λ u. rw u h)
+    (λ n.
+    let hd = denied-handled es L e i h in
+    shut-denied ((after T c) .entries) L e i hd (still T c l e i s (w n) a g r hd (denied-shut es L e i (counter (T .system)) (facts T s .tree) a h)))
+
+-- ---- a new link
+module _ (T : Tables) (u s d n : ℕ) (h : sound T ≡ true) (y : reply T (link u s d) ≡ Done n) where
+  record Made : Type 0 where
+    passes : first (linkChecks T u s d) ≡ 0
+    number : n ≡ freeEntry (T .entries)
+    entries : (after T (link u s d)) .entries ≡ linked (T .entries) s d
+
+  made : Made
+  unfolding outcomeOf treeLink
+  made =
+      let cs = linkChecks T u s d in
+      let done = outcome (Done (freeEntry (T .entries))) (withEntries T (linked (T .entries) s d)) in
+      split (eqb (first cs) 0)
+      (λ q.
+      let z = eqb-true (first cs) 0 q in
+      let o : done ≡ call T cs done = call-done T cs done (sym h) refl refl z in
+      record {
+        passes = z;
+        number = (let e : Done (freeEntry (T .entries)) ≡ Done n = ap (λ (x : Outcome). x .reply) o ∙ y in cc);
+        entries = sym (ap (λ (x : Outcome). x .left .entries) o);
+      })
+      (λ q.
+      let o : refused (first cs) T ≡ call T cs done = call-refused T cs done (sym h) refl refl (eqb-false (first cs) 0 q) in
+      let e : Refused (record { 0 = first cs }) ≡ Done n = ap (λ (x : Outcome). x .reply) o ∙ y in
+      absurd (let z : _≡_ {A = ℕ} 0 1 = cc in omega arith))
+
+  record Checked : Type 0 where
+    source : live (T .entries) s ≡ true
+    target : isDir (T .entries) d ≡ true
+    within : any (layerCrosses (T .entries) (T .layers) (T .pool) (linkMove (T .entries) s d)) (domainOf T u) ≡ false
+    free : freeEntry (T .entries) < maxEntries
+    room : 3 * freeEntry (T .entries) + 2 < length (T .entries)
+
+  checked : Checked
+  unfolding linkChecks linkShape linkVerdict linkLater verdict
+  checked =
+      let p = passed (linkChecks T u s d) (made .passes) in
+      let k : freeEntry (T .entries) < maxEntries = ltb-true (freeEntry (T .entries)) maxEntries (not-false _ (p .1 .1 .1 .1 .1 .1 .1 .1 .0)) in
+      record {
+        source = not-false _ (p .1 .0);
+        target = not-false _ (p .1 .1 .1 .1 .0);
+        within = p .1 .1 .1 .1 .1 .1 .1 .0;
+        free = k;
+        room = (let w = facts T h .tree .long in omega arith);
+      }
+
+  link-object : object ((after T (link u s d)) .entries) n ≡ object (T .entries) s
+  unfolding linked
+  link-object = rw (made .entries, made .number) (object-put (T .entries) (freeEntry (T .entries)) (kind (T .entries) s) d (object (T .entries) s) (checked .room))
+
+  link-parent : parent ((after T (link u s d)) .entries) n ≡ d
+  unfolding linked
+  link-parent = rw (made .entries, made .number) (parent-put (T .entries) (freeEntry (T .entries)) (kind (T .entries) s) d (object (T .entries) s) (checked .room))
+
+  link-frees : (e : ℕ) → frees T (link u s d) e ≡ false
+  unfolding frees wouldFree
+  link-frees e = none (isDone (reply T (link u s d)))
+    where
+      none : (b : Bool) → (b && false) ≡ false
+      none true = refl
+      none false = refl
+
+  link-shut : (l i : ℕ) → elem l (domainOf T u) ≡ true → has (entryRights (T .entries) s) i ≡ true → has (handled (layerAt (T .layers) (T .pool) l)) i ≡ true
+      → Shut (T .entries) (gives (layerAt (T .layers) (T .pool) l) i) s → Shut ((after T (link u s d)) .entries) (gives (layerAt (T .layers) (T .pool) l) i) n
+  unfolding caller
+  link-shut l i m r hd x =
+      let es = T .entries in
+      let es′ = (after T (link u s d)) .entries in
+      let f = gives (layerAt (T .layers) (T .pool) l) i in
+      let ld = dir-live es d (checked .target) in
+      let sd : Shut es f d = shut-there es (counter (T .system)) (facts T h .tree) i (T .layers) (T .pool) (domainOf T u) l m hd Link s d None 0 0 (checked .within) ld r x in
+      let sd′ : Shut es′ f d = still T (link u s d) l d i h m ld (link-frees d) (dir-holds es s d i (checked .target) r) hd sd in
+      shut-cons es′ f n (rw link-object (shut-here es f s x)) (rw link-parent sd′)
+
+pub link-denied : (T : Tables) (u s d n l i : ℕ) → sound T ≡ true → reply T (link u s d) ≡ Done n → elem l (domainOf T u) ≡ true
+    → has (entryRights (T .entries) s) i ≡ true → has (denied (T .entries) (layerAt (T .layers) (T .pool) l) s) i ≡ true
+    → has (denied ((after T (link u s d)) .entries) (layerAt (T .layers) (T .pool) l) n) i ≡ true
+link-denied T u s d n l i h y m r x =
+    let es = T .entries in
+    let L = layerAt (T .layers) (T .pool) l in
+    let hd = denied-handled es L s i x in
+    shut-denied ((after T (link u s d)) .entries) L n i hd
+    (link-shut T u s d n h y l i m r hd (denied-shut es L s i (counter (T .system)) (facts T h .tree) (checked T u s d n h y .source) x))
