@@ -1,4 +1,4 @@
--- A table of which all but the last cell was lent has one cell more than what came back. Assumes nothing.
+-- A table that was passed without its last cell has one cell more than what came back. Assumes nothing.
 use Prim.Native.Nat.{ℕ, _+_}
 use mathlib.Core.Path.{_≡_}
 use mathlib.Core.List.{List, [], _∷_, _++_}
