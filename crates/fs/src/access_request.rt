@@ -42,7 +42,7 @@ fn access_mask(entries: &[u64], e: u64, asked: Rights) -> u64
 }
 
 // Some layer of the thread's domain denies one of the rights.
-fn is_denied(
+pub fn is_denied(
     entries: &[u64],
     layers: &[u64],
     pool: &[u64],

@@ -16,7 +16,8 @@ pub struct Asked {
     pub target: Rights,
 }
 
-fn make_of(k: MaybeKind) -> Rights
+// The right to make an entry of a kind, if there is one.
+pub fn make_of(k: MaybeKind) -> Rights
     ensures { λ r. ⌜ r .0 ≡ makeOf k ⌝ }
 {
     match k {
@@ -25,7 +26,8 @@ fn make_of(k: MaybeKind) -> Rights
     }
 }
 
-fn remove_of(k: MaybeKind) -> Rights
+// The right to remove an entry of a kind, if there is one.
+pub fn remove_of(k: MaybeKind) -> Rights
     ensures { λ r. ⌜ r .0 ≡ removeOf k ⌝ }
 {
     match k {

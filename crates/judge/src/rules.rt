@@ -48,7 +48,7 @@ pub fn rights_on(rules: &[u64], ty: u64, key: u64) -> Rights
 }
 
 // Three times a number of rules, and at most `most`.
-fn cells_of(count: u64, most: usize) -> usize
+pub fn cells_of(count: u64, most: usize) -> usize
     ensures { λ r. ⌜ r ≡ min (ruleWidth * count) most ⌝ }
 {
     if count > (most / RULE_WIDTH) as u64 {

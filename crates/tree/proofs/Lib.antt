@@ -1,0 +1,2 @@
+-- The laws of climbs.
+pub mod Above

@@ -1,0 +1,2 @@
+-- The laws of create.
+pub mod Creating

@@ -1,0 +1,171 @@
+// Create an entry.
+use access::errno::Errno;
+use access::errno::Reply;
+use access::kinds::Kind;
+use access::limits::MAX_COUNTER;
+use access::limits::MAX_ENTRIES;
+use fs::access_request::is_denied;
+use fs::needs::make_of;
+use tables::cells::write;
+use tables::rows::counter_of;
+use tables::rows::entry_live;
+use tables::rows::is_dir;
+use tables::rows::thread_live;
+use tree::entries::free_entry;
+use tree::entries::put_entry;
+ghost use mathlib.Core.Path.{_≡_};
+ghost use Rattle.laws.specs.Refusals.{first};
+ghost use Rattle.tables.specs.Tables.{before, after};
+ghost use Rattle.tables.specs.Outcome.{outcome, answer};
+ghost use Prim.Native.Nat.{_<_};
+ghost use Rattle.access.specs.Limits.{maxCounter};
+ghost use Rattle.tables.specs.Tables.{counter};
+ghost use Rattle.tree.specs.Entries.{freeEntry, unknownKind};
+ghost use Rattle.tree.specs.Create.{createShape, createVerdict, createLater, treeCreateChecks, treeCreated};
+
+fn unknown_kind(k: u64) -> bool
+    ensures { λ r. ⌜ r ≡ unknownKind k ⌝ }
+{
+    if k == 0 {
+        return true;
+    }
+    7 < k
+}
+
+fn create_shape(
+    system: &[u64],
+    entries: &[u64],
+    rulesets: &[u64],
+    layers: &[u64],
+    pool: &[u64],
+    threads: &[u64],
+    t: u64,
+    d: u64,
+    k: u64,
+) -> u64
+    ensures { λ r. ⌜ r ≡ first (createShape (before system entries rulesets layers pool threads) t d k) ⌝ }
+{
+    if !thread_live(threads, t) {
+        return Errno::ESRCH.0;
+    }
+    if !entry_live(entries, d) {
+        return Errno::ENOENT.0;
+    }
+    if !is_dir(entries, d) {
+        return Errno::ENOTDIR.0;
+    }
+    if unknown_kind(k) {
+        return Errno::EINVAL.0;
+    }
+    0
+}
+
+fn create_verdict(
+    system: &[u64],
+    entries: &[u64],
+    rulesets: &[u64],
+    layers: &[u64],
+    pool: &[u64],
+    threads: &[u64],
+    t: u64,
+    d: u64,
+    k: u64,
+) -> u64
+    ensures { λ r. ⌜ r ≡ first (createVerdict (before system entries rulesets layers pool threads) t d k) ⌝ }
+{
+    let right = make_of(Kind::of_number(k));
+    if is_denied(entries, layers, pool, threads, t, d, right) {
+        return Errno::EACCES.0;
+    }
+    0
+}
+
+// `e` is the lowest free entry.
+fn create_later(
+    system: &[u64],
+    entries: &[u64],
+    rulesets: &[u64],
+    layers: &[u64],
+    pool: &[u64],
+    threads: &[u64],
+    e: usize,
+) -> u64
+    requires { ⌜ e ≡ freeEntry (now entries) ⌝ }
+    ensures { λ r. ⌜ r ≡ first (createLater (before system entries rulesets layers pool threads)) ⌝ }
+{
+    if e >= MAX_ENTRIES {
+        return Errno::ENOSPC.0;
+    }
+    if counter_of(system) >= MAX_COUNTER {
+        return Errno::ENOSPC.0;
+    }
+    0
+}
+
+fn create_checks(
+    system: &[u64],
+    entries: &[u64],
+    rulesets: &[u64],
+    layers: &[u64],
+    pool: &[u64],
+    threads: &[u64],
+    t: u64,
+    d: u64,
+    k: u64,
+    e: usize,
+) -> u64
+    requires { ⌜ e ≡ freeEntry (now entries) ⌝ }
+    ensures { λ r. ⌜ r ≡ first (treeCreateChecks (before system entries rulesets layers pool threads) t d k) ⌝ }
+{
+    let a = create_shape(system, entries, rulesets, layers, pool, threads, t, d, k);
+    if a != 0 {
+        return a;
+    }
+    let b = create_verdict(system, entries, rulesets, layers, pool, threads, t, d, k);
+    if b != 0 {
+        return b;
+    }
+    create_later(system, entries, rulesets, layers, pool, threads, e)
+}
+
+fn apply_create(
+    system: &mut [u64],
+    entries: &mut [u64],
+    rulesets: &[u64],
+    layers: &[u64],
+    pool: &[u64],
+    threads: &[u64],
+    d: u64,
+    k: u64,
+    e: usize,
+)
+    requires { ⌜ (e ≡ freeEntry (now entries)) × (counter (now system) < maxCounter) ⌝ }
+    ensures { λ r. ⌜ after system entries rulesets layers pool threads ≡ treeCreated (before system entries rulesets layers pool threads) d k ⌝ }
+{
+    let object = counter_of(system);
+    write(system, 1, object + 1);
+    put_entry(entries, e, k, d, object);
+}
+
+// Makes an entry of kind `k` in the directory `d`, with a new object. Answers its number.
+pub fn create(
+    system: &mut [u64],
+    entries: &mut [u64],
+    rulesets: &[u64],
+    layers: &[u64],
+    pool: &[u64],
+    threads: &[u64],
+    t: u64,
+    d: u64,
+    k: u64,
+) -> Reply
+    ensures { λ r. ⌜ outcome r (after system entries rulesets layers pool threads) ≡ answer (before system entries rulesets layers pool threads) (treeCreateChecks (before system entries rulesets layers pool threads) t d k) (outcome (Reply.Done (freeEntry (now (entries .entry)))) (treeCreated (before system entries rulesets layers pool threads) d k)) ⌝ }
+{
+    let e = free_entry(entries);
+    let a = create_checks(system, entries, rulesets, layers, pool, threads, t, d, k, e);
+    if a != 0 {
+        return Reply::Refused(Errno(a));
+    }
+    apply_create(system, entries, rulesets, layers, pool, threads, d, k, e);
+    Reply::Done(e as u64)
+}

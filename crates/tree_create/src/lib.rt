@@ -1,0 +1,3 @@
+// Create and remove entries.
+pub mod create;
+pub mod remove;

@@ -1,0 +1,155 @@
+// Exchange two entries: each moves to the other's directory.
+use access::errno::Errno;
+use access::errno::Reply;
+use tables::rows::entry_live;
+use tables::rows::is_dir;
+use tables::rows::parent_of;
+use tables::rows::thread_live;
+use tree::entries::is_above;
+use tree::entries::put_parent;
+use tree::entries::same_object;
+use tree::moves::exchange_move;
+use tree::moves::thread_verdict;
+ghost use mathlib.Core.Path.{_≡_};
+ghost use Rattle.laws.specs.Refusals.{first};
+ghost use Rattle.tables.specs.Tables.{before, after};
+ghost use Rattle.tables.specs.Outcome.{outcome, answer};
+ghost use Rattle.tree.specs.Entries.{withEntries};
+ghost use Rattle.tree.specs.Exchange.{exchangeNames, exchangeShape, exchangeVerdict, exchangeChecks, swapped};
+
+fn exchange_names(
+    system: &[u64],
+    entries: &[u64],
+    rulesets: &[u64],
+    layers: &[u64],
+    pool: &[u64],
+    threads: &[u64],
+    t: u64,
+    s: u64,
+    d: u64,
+    x: u64,
+) -> u64
+    ensures { λ r. ⌜ r ≡ first (exchangeNames (before system entries rulesets layers pool threads) t s d x) ⌝ }
+{
+    if !thread_live(threads, t) {
+        return Errno::ESRCH.0;
+    }
+    if !entry_live(entries, s) {
+        return Errno::ENOENT.0;
+    }
+    if !entry_live(entries, d) {
+        return Errno::ENOENT.0;
+    }
+    if !entry_live(entries, x) {
+        return Errno::ENOENT.0;
+    }
+    0
+}
+
+fn exchange_shape(entries: &[u64], s: u64, d: u64, x: u64) -> u64
+    ensures { λ r. ⌜ r ≡ first (exchangeShape (now (entries .entry)) s d x) ⌝ }
+{
+    if s == 0 {
+        return Errno::EBUSY.0;
+    }
+    if x == 0 {
+        return Errno::EBUSY.0;
+    }
+    if !is_dir(entries, d) {
+        return Errno::ENOTDIR.0;
+    }
+    if parent_of(entries, x) != d {
+        return Errno::EINVAL.0;
+    }
+    if is_above(entries, s, d) {
+        return Errno::EINVAL.0;
+    }
+    if is_above(entries, x, parent_of(entries, s)) {
+        return Errno::EINVAL.0;
+    }
+    0
+}
+
+fn exchange_verdict(
+    system: &[u64],
+    entries: &[u64],
+    rulesets: &[u64],
+    layers: &[u64],
+    pool: &[u64],
+    threads: &[u64],
+    t: u64,
+    s: u64,
+    d: u64,
+    x: u64,
+) -> u64
+    ensures { λ r. ⌜ r ≡ first (exchangeVerdict (before system entries rulesets layers pool threads) t s d x) ⌝ }
+{
+    thread_verdict(
+        entries,
+        layers,
+        pool,
+        threads,
+        t,
+        exchange_move(entries, s, d, x),
+    )
+}
+
+fn exchange_checks(
+    system: &[u64],
+    entries: &[u64],
+    rulesets: &[u64],
+    layers: &[u64],
+    pool: &[u64],
+    threads: &[u64],
+    t: u64,
+    s: u64,
+    d: u64,
+    x: u64,
+) -> u64
+    ensures { λ r. ⌜ r ≡ first (exchangeChecks (before system entries rulesets layers pool threads) t s d x) ⌝ }
+{
+    let a = exchange_names(system, entries, rulesets, layers, pool, threads, t, s, d, x);
+    if a != 0 {
+        return a;
+    }
+    let b = exchange_shape(entries, s, d, x);
+    if b != 0 {
+        return b;
+    }
+    exchange_verdict(system, entries, rulesets, layers, pool, threads, t, s, d, x)
+}
+
+// Swaps the parents; two entries of one object stay as they are.
+fn apply_exchange(entries: &mut [u64], s: u64, d: u64, x: u64)
+    ensures { λ r. ⌜ now (entries .exit) ≡ swapped (now (entries .entry)) s d x ⌝ }
+{
+    if same_object(entries, s, x) {
+        return;
+    }
+    let source = parent_of(entries, s);
+    put_parent(entries, s, d);
+    put_parent(entries, x, source);
+}
+
+// Exchanges the entry `s` with the entry `x` of the directory `d`.
+pub fn exchange(
+    system: &[u64],
+    entries: &mut [u64],
+    rulesets: &[u64],
+    layers: &[u64],
+    pool: &[u64],
+    threads: &[u64],
+    t: u64,
+    s: u64,
+    d: u64,
+    x: u64,
+) -> Reply
+    ensures { λ r. ⌜ outcome r (after system entries rulesets layers pool threads) ≡ answer (before system entries rulesets layers pool threads) (exchangeChecks (before system entries rulesets layers pool threads) t s d x) (outcome (Reply.Done 0) (withEntries (before system entries rulesets layers pool threads) (swapped (now (entries .entry)) s d x))) ⌝ }
+{
+    let a = exchange_checks(system, entries, rulesets, layers, pool, threads, t, s, d, x);
+    if a != 0 {
+        return Reply::Refused(Errno(a));
+    }
+    apply_exchange(entries, s, d, x);
+    Reply::Done(0)
+}

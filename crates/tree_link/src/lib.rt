@@ -1,0 +1,146 @@
+// Link an entry: another entry of its object.
+use access::errno::Errno;
+use access::errno::Reply;
+use access::limits::MAX_ENTRIES;
+use tables::rows::entry_live;
+use tables::rows::is_dir;
+use tables::rows::kind_of;
+use tables::rows::object_of;
+use tables::rows::thread_live;
+use tree::entries::free_entry;
+use tree::entries::put_entry;
+use tree::moves::link_move;
+use tree::moves::thread_verdict;
+ghost use mathlib.Core.Path.{_≡_};
+ghost use Rattle.laws.specs.Refusals.{first};
+ghost use Rattle.tables.specs.Tables.{before, after};
+ghost use Rattle.tables.specs.Outcome.{outcome, answer};
+ghost use Rattle.tree.specs.Entries.{freeEntry, withEntries};
+ghost use Rattle.tree.specs.Link.{linkShape, linkVerdict, linkLater, linkChecks, linked};
+
+fn link_shape(
+    system: &[u64],
+    entries: &[u64],
+    rulesets: &[u64],
+    layers: &[u64],
+    pool: &[u64],
+    threads: &[u64],
+    t: u64,
+    s: u64,
+    d: u64,
+) -> u64
+    ensures { λ r. ⌜ r ≡ first (linkShape (before system entries rulesets layers pool threads) t s d) ⌝ }
+{
+    if !thread_live(threads, t) {
+        return Errno::ESRCH.0;
+    }
+    if !entry_live(entries, s) {
+        return Errno::ENOENT.0;
+    }
+    if !entry_live(entries, d) {
+        return Errno::ENOENT.0;
+    }
+    if s == 0 {
+        return Errno::EBUSY.0;
+    }
+    if !is_dir(entries, d) {
+        return Errno::ENOTDIR.0;
+    }
+    if is_dir(entries, s) {
+        return Errno::EPERM.0;
+    }
+    0
+}
+
+fn link_verdict(
+    system: &[u64],
+    entries: &[u64],
+    rulesets: &[u64],
+    layers: &[u64],
+    pool: &[u64],
+    threads: &[u64],
+    t: u64,
+    s: u64,
+    d: u64,
+) -> u64
+    ensures { λ r. ⌜ r ≡ first (linkVerdict (before system entries rulesets layers pool threads) t s d) ⌝ }
+{
+    thread_verdict(entries, layers, pool, threads, t, link_move(entries, s, d))
+}
+
+// `e` is the lowest free entry.
+fn link_later(
+    system: &[u64],
+    entries: &[u64],
+    rulesets: &[u64],
+    layers: &[u64],
+    pool: &[u64],
+    threads: &[u64],
+    e: usize,
+) -> u64
+    requires { ⌜ e ≡ freeEntry (now entries) ⌝ }
+    ensures { λ r. ⌜ r ≡ first (linkLater (before system entries rulesets layers pool threads)) ⌝ }
+{
+    if e >= MAX_ENTRIES {
+        return Errno::ENOSPC.0;
+    }
+    0
+}
+
+fn link_checks(
+    system: &[u64],
+    entries: &[u64],
+    rulesets: &[u64],
+    layers: &[u64],
+    pool: &[u64],
+    threads: &[u64],
+    t: u64,
+    s: u64,
+    d: u64,
+    e: usize,
+) -> u64
+    requires { ⌜ e ≡ freeEntry (now entries) ⌝ }
+    ensures { λ r. ⌜ r ≡ first (linkChecks (before system entries rulesets layers pool threads) t s d) ⌝ }
+{
+    let a = link_shape(system, entries, rulesets, layers, pool, threads, t, s, d);
+    if a != 0 {
+        return a;
+    }
+    let b = link_verdict(system, entries, rulesets, layers, pool, threads, t, s, d);
+    if b != 0 {
+        return b;
+    }
+    link_later(system, entries, rulesets, layers, pool, threads, e)
+}
+
+fn apply_link(entries: &mut [u64], s: u64, d: u64, e: usize)
+    requires { ⌜ e ≡ freeEntry (now entries) ⌝ }
+    ensures { λ r. ⌜ now (entries .exit) ≡ linked (now (entries .entry)) s d ⌝ }
+{
+    let kind = kind_of(entries, s);
+    let object = object_of(entries, s);
+    put_entry(entries, e, kind, d, object);
+}
+
+// Links the entry `s` into the directory `d`. Answers the new entry's number.
+pub fn link(
+    system: &[u64],
+    entries: &mut [u64],
+    rulesets: &[u64],
+    layers: &[u64],
+    pool: &[u64],
+    threads: &[u64],
+    t: u64,
+    s: u64,
+    d: u64,
+) -> Reply
+    ensures { λ r. ⌜ outcome r (after system entries rulesets layers pool threads) ≡ answer (before system entries rulesets layers pool threads) (linkChecks (before system entries rulesets layers pool threads) t s d) (outcome (Reply.Done (freeEntry (now (entries .entry)))) (withEntries (before system entries rulesets layers pool threads) (linked (now (entries .entry)) s d))) ⌝ }
+{
+    let e = free_entry(entries);
+    let a = link_checks(system, entries, rulesets, layers, pool, threads, t, s, d, e);
+    if a != 0 {
+        return Reply::Refused(Errno(a));
+    }
+    apply_link(entries, s, d, e);
+    Reply::Done(e as u64)
+}

@@ -1,0 +1,14 @@
+//! Links the archive that `rt staticlib capi` writes.
+use std::path::Path;
+
+fn main() {
+    let dir = Path::new(env!("CARGO_MANIFEST_DIR")).join("../../target/staticlib");
+    let archive = dir.join("libcapi.a");
+    println!("cargo:rerun-if-changed={}", archive.display());
+    if !archive.exists() {
+        println!("cargo:warning=the archive is missing: run `rt staticlib capi` at the top of the repository first");
+        std::process::exit(1);
+    }
+    println!("cargo:rustc-link-search=native={}", dir.display());
+    println!("cargo:rustc-link-lib=static=capi");
+}
