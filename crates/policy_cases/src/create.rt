@@ -1,5 +1,5 @@
 // Rulesets opened and closed.
-use crate::play::run;
+use policy_script::play::run;
 
 pub fn cases() {
     run(

@@ -1,7 +1,6 @@
 // The calls of the broker on tables that are built by words. The file `stdout` has the answers, written down from the
 // specification.
 mod create;
-mod play;
 mod requests;
 mod restrict;
 mod rules;

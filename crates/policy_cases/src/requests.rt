@@ -1,5 +1,5 @@
 // What a thread asks of entries and ports, and unsound tables.
-use crate::play::run;
+use policy_script::play::run;
 
 pub fn cases() {
     run(

@@ -1,5 +1,5 @@
 // Layers given to threads, and one layer's rules.
-use crate::play::run;
+use policy_script::play::run;
 
 pub fn cases() {
     run(

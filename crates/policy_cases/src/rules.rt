@@ -1,5 +1,5 @@
 // Rules added to a ruleset.
-use crate::play::run;
+use policy_script::play::run;
 
 pub fn cases() {
     run(

@@ -1,5 +1,5 @@
 // Threads cloned, and their marks.
-use crate::play::run;
+use policy_script::play::run;
 
 pub fn cases() {
     run(

@@ -1,5 +1,5 @@
 // Document 01's worked cases that leave the tree alone, and what they turn on.
-use crate::play::run;
+use policy_script::play::run;
 
 pub fn cases() {
     run(

@@ -13,7 +13,7 @@ fn next(word: &[u8], from: usize) -> usize {
 }
 
 // Number `i` of a word.
-fn arg(word: &[u8], i: u64) -> u64 {
+pub fn arg(word: &[u8], i: u64) -> u64 {
     let mut k: u64 = 0;
     let mut from = 1;
     while k < i {

@@ -1,3 +1,5 @@
 // Cases of the broker played by words.
 mod calls;
-pub mod words;
+pub mod play;
+mod tree_calls;
+mod words;

@@ -4,6 +4,8 @@ use crate::calls::asks;
 use crate::calls::restrict;
 use crate::calls::rulesets_call;
 use crate::calls::threads_call;
+use crate::tree_calls::create;
+use crate::tree_calls::entries_call;
 use access::errno::Reply;
 use case_script::text::byte;
 use case_script::text::find;
@@ -25,7 +27,7 @@ fn print(answer: Reply) {
 
 fn call(
     system: &mut [u64],
-    entries: &[u64],
+    entries: &mut [u64],
     rulesets: &mut [u64],
     layers: &mut [u64],
     pool: &mut [u64],
@@ -36,6 +38,17 @@ fn call(
     match letter {
         b'S' => restrict(system, entries, rulesets, layers, pool, threads, word),
         b'K' | b'M' | b'W' => threads_call(
+            system,
+            entries,
+            rulesets,
+            layers,
+            pool,
+            threads,
+            letter,
+            word,
+        ),
+        b'D' => create(system, entries, rulesets, layers, pool, threads, word),
+        b'X' | b'H' | b'V' | b'Y' => entries_call(
             system,
             entries,
             rulesets,
@@ -71,7 +84,7 @@ fn call(
 // A call, with its answer printed if `loud`.
 fn answer(
     system: &mut [u64],
-    entries: &[u64],
+    entries: &mut [u64],
     rulesets: &mut [u64],
     layers: &mut [u64],
     pool: &mut [u64],

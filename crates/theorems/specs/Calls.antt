@@ -1,5 +1,4 @@
--- Document 01: every call in one type, with what each answers and leaves, by the definitions that contracts cite; the calls that change the tree have their
--- definitions in `tree` and no code yet.
+-- Document 01: every call in one type, with what each answers and leaves, by the very definitions that the contracts of the entry points cite.
 use mathlib.Core.Bool.{Bool, true, false, not, _&&_}
 use mathlib.Core.List.{List, [], _∷_}
 use Prim.Native.Nat.{ℕ}

@@ -1,5 +1,4 @@
 -- Each table is as long as it was: every call that takes it keeps its length. Assumes nothing.
-use mathlib.Core.Path.{refl}
 use Rattle.policy_script.proofs.words.play.Statement.{statement}
 use Rattle.policy_script.proofs.words.play.Tie as tie
 
@@ -17,10 +16,10 @@ play-spec =
     (λ c. c .before .before .before .before .before .before .before .before .before .before .before .before .put .kept .1 .1 .1 .1 .0)
     (λ c. c .before .before .before .before .before .before .before .before .before .before .before .before .put .kept .1 .1 .1 .1 .1 .0)
     (λ c. tt)
-    (λ c. c .before .before .before .before .before .before .before .before .before .before .answer .kept .0)
-    (λ c. refl)
-    (λ c. c .before .before .before .before .before .before .before .before .before .before .answer .kept .1 .1 .0)
-    (λ c. c .before .before .before .before .before .before .before .before .before .before .answer .kept .1 .1 .1 .0)
-    (λ c. c .before .before .before .before .before .before .before .before .before .before .answer .kept .1 .1 .1 .1 .0)
-    (λ c. c .before .before .before .before .before .before .before .before .before .before .answer .kept .1 .1 .1 .1 .1 .0)
+    (λ c. c .before .before .before .before .before .before .before .before .before .before .before .before .answer .kept .0)
+    (λ c. c .before .before .before .before .before .before .before .before .before .before .before .before .answer .kept .1 .0)
+    (λ c. c .before .before .before .before .before .before .before .before .before .before .before .before .answer .kept .1 .1 .0)
+    (λ c. c .before .before .before .before .before .before .before .before .before .before .before .before .answer .kept .1 .1 .1 .0)
+    (λ c. c .before .before .before .before .before .before .before .before .before .before .before .before .answer .kept .1 .1 .1 .1 .0)
+    (λ c. c .before .before .before .before .before .before .before .before .before .before .before .before .answer .kept .1 .1 .1 .1 .1 .0)
     (λ c. tt))

@@ -1,0 +1,16 @@
+-- Assumes nothing.
+use borrow.Author.Needs.{needs}
+use Rattle.capi.specs.Codes.{number}
+use Rattle.capi.proofs.number.Statement.{statement}
+use Rattle.capi.proofs.number.Tie as tie
+
+pub number-spec : {M : Type 1} → statement M
+unfolding number
+number-spec =
+    tie.close
+    (tie.spec
+    (λ c. search needs)
+    (λ c. search needs)
+    (λ c κs. tt)
+    (λ c. rw (c .before .reply .given .1))
+    (λ c. rw (c .before .before .reply2 .given .1) (c .code-of .ensures)))

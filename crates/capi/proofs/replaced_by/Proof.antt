@@ -1,0 +1,13 @@
+-- Assumes nothing.
+use borrow.Author.Tests.{eq-eqb, ne-eqb}
+use Rattle.capi.specs.Codes.{replacedBy}
+use Rattle.capi.proofs.replaced_by.Statement.{statement}
+use Rattle.capi.proofs.replaced_by.Tie as tie
+
+pub replaced-by-spec : {M : Type 1} → statement M
+unfolding replacedBy
+replaced-by-spec =
+    tie.close
+    (tie.spec
+    (λ c. rw (eq-eqb _ _ (c .if1 .taken)))
+    (λ c. rw (ne-eqb _ _ (c .if1 .left))))

@@ -1,0 +1,15 @@
+-- Assumes nothing.
+use borrow.Author.Needs.{needs}
+use Rattle.capi.proofs.Answers.{answers}
+use Rattle.capi.proofs.skein_create.Statement.{statement}
+use Rattle.capi.proofs.skein_create.Tie as tie
+
+pub skein-create-spec : {M : Type 1} → statement M
+skein-create-spec =
+    tie.close
+    (tie.spec
+    (λ c κs. tt)
+    (λ c κs. tt)
+    (λ c. search needs)
+    (λ c. search needs)
+    (λ c. answers _ _ (c .before .before .before .before .before .create .ensures) (c .number .ensures)))

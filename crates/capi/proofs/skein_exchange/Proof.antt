@@ -1,0 +1,14 @@
+-- Assumes nothing.
+use borrow.Author.Needs.{needs}
+use Rattle.capi.proofs.Answers.{answers}
+use Rattle.capi.proofs.skein_exchange.Statement.{statement}
+use Rattle.capi.proofs.skein_exchange.Tie as tie
+
+pub skein-exchange-spec : {M : Type 1} → statement M
+skein-exchange-spec =
+    tie.close
+    (tie.spec
+    (λ c κs. tt)
+    (λ c κs. tt)
+    (λ c. search needs)
+    (λ c. answers _ _ (c .before .before .before .exchange .ensures) (c .number .ensures)))

@@ -1,0 +1,24 @@
+-- Assumes nothing.
+use mathlib.Core.Path.{ap, _∙_}
+use borrow.Author.Needs.{needs}
+use Rattle.capi.specs.Codes.{codeOf, spanFrom}
+use Rattle.capi.proofs.skein_layer_rules.Statement.{statement}
+use Rattle.capi.proofs.skein_layer_rules.Tie as tie
+
+pub skein-layer-rules-spec : {M : Type 1} → statement M
+unfolding spanFrom
+skein-layer-rules-spec =
+    tie.close
+    (tie.spec
+    (λ c κs. tt)
+    (λ c κs. tt)
+    (λ c κs. tt)
+    (λ c κs. tt)
+    (λ c κs. tt)
+    (λ c. search needs)
+    (λ c.
+    let w = c .before .before .before in
+    let v = w .before .before .before .before in
+    let s = v .before .before in
+    let l = s .before .layer-rules .ensures in
+    (c .code-of .ensures ∙ ap codeOf (l .1), rw (w .write2 .ensures, v .write .ensures, s .span-from .ensures, l .1, l .0))))

@@ -1,0 +1,2 @@
+-- What C and Rust receive.
+pub mod Codes

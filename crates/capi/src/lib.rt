@@ -1,0 +1,436 @@
+// What C and Rust call: every call of the broker, with its arguments as numbers and its reply as one number.
+use access::errno::Reply;
+use access::rights::Rights;
+use judge::rules::cells_of;
+use tables::cells::row_read;
+use tables::cells::write;
+use tables::rows::LAYER_WIDTH;
+use tree::Replaced;
+ghost use mathlib.Core.Path.{_≡_};
+ghost use mathlib.Core.Bool.{cond};
+ghost use Prim.Native.Nat.{_*_, min};
+ghost use lib.Dec.{eqb};
+ghost use lib.ListN.{length, set};
+ghost use Rattle.tables.specs.Tables.{before, after, ruleWidth};
+ghost use Rattle.tables.specs.Layers.{layerFirst};
+ghost use Rattle.tables.specs.Fresh.{freshened};
+ghost use Rattle.ruleset.specs.Create.{created, closed};
+ghost use Rattle.rule.specs.Rule.{pathAdded, portAdded};
+ghost use Rattle.domain.specs.Restrict.{restrictCall};
+ghost use Rattle.domain.specs.Layer.{layerCode, layerPart};
+ghost use Rattle.domain.specs.Threads.{cloned, privsSet, adminSet};
+ghost use Rattle.fs.specs.Access.{accessCall};
+ghost use Rattle.net.specs.Port.{portCall};
+ghost use Rattle.tree.specs.Create.{treeCreate, treeRemove};
+ghost use Rattle.tree.specs.Link.{treeLink};
+ghost use Rattle.tree.specs.Rename.{treeRename};
+ghost use Rattle.tree.specs.Exchange.{treeExchange};
+ghost use Rattle.capi.specs.Codes.{codeOf, number, Answers, replacedBy, spanFrom};
+
+fn code_of(e: u64) -> u64
+    ensures { λ r. ⌜ r ≡ codeOf e ⌝ }
+{
+    if e == 0 {
+        return 0;
+    }
+    18446744073709551615 - (e - 1)
+}
+
+fn number(reply: Reply) -> u64
+    ensures { λ r. ⌜ r ≡ number reply ⌝ }
+{
+    match reply {
+        Reply::Done(n) => n,
+        Reply::Refused(e) => code_of(e.0),
+    }
+}
+
+fn replaced_by(replaces: u64, x: u64) -> Replaced
+    ensures { λ r. ⌜ r ≡ replacedBy replaces x ⌝ }
+{
+    if replaces == 0 {
+        Replaced::None
+    } else {
+        Replaced::Entry(x)
+    }
+}
+
+fn span_from(layers: &[u64], cells: usize, l: u64, code: u64) -> usize
+    ensures { λ r. ⌜ r ≡ cond (eqb code 0) (min (ruleWidth * layerFirst (now (layers .entry)) l) cells) 0 ⌝ }
+{
+    if code != 0 {
+        return 0;
+    }
+    cells_of(row_read(layers, LAYER_WIDTH, l as usize, 4), cells)
+}
+
+#[no_mangle]
+pub extern "C" fn skein_fresh(
+    system: &mut [u64],
+    entries: &mut [u64],
+    rulesets: &mut [u64],
+    layers: &mut [u64],
+    pool: &mut [u64],
+    threads: &mut [u64],
+    level: u64,
+) -> u64
+    ensures { λ answer. ⌜ Answers answer (after system entries rulesets layers pool threads) (freshened (before system entries rulesets layers pool threads) level) ⌝ }
+{
+    number(broker::fresh(system, entries, rulesets, layers, pool, threads, level))
+}
+
+#[no_mangle]
+pub extern "C" fn skein_create_ruleset(
+    system: &[u64],
+    entries: &[u64],
+    rulesets: &mut [u64],
+    layers: &[u64],
+    pool: &[u64],
+    threads: &[u64],
+    bytes: &[u8],
+    flags: u64,
+) -> u64
+    ensures { λ answer. ⌜ Answers answer (after system entries rulesets layers pool threads) (created (before system entries rulesets layers pool threads) (now (bytes .entry)) flags) ⌝ }
+{
+    number(broker::create_ruleset(
+        system,
+        entries,
+        rulesets,
+        layers,
+        pool,
+        threads,
+        bytes,
+        flags,
+    ))
+}
+
+#[no_mangle]
+pub extern "C" fn skein_close_ruleset(
+    system: &[u64],
+    entries: &[u64],
+    rulesets: &mut [u64],
+    layers: &[u64],
+    pool: &[u64],
+    threads: &[u64],
+    r: u64,
+) -> u64
+    ensures { λ answer. ⌜ Answers answer (after system entries rulesets layers pool threads) (closed (before system entries rulesets layers pool threads) r) ⌝ }
+{
+    number(broker::close_ruleset(system, entries, rulesets, layers, pool, threads, r))
+}
+
+#[no_mangle]
+pub extern "C" fn skein_add_path_rule(
+    system: &[u64],
+    entries: &[u64],
+    rulesets: &mut [u64],
+    layers: &[u64],
+    pool: &[u64],
+    threads: &[u64],
+    r: u64,
+    e: u64,
+    rights: u64,
+    flags: u64,
+) -> u64
+    ensures { λ answer. ⌜ Answers answer (after system entries rulesets layers pool threads) (pathAdded (before system entries rulesets layers pool threads) r e rights flags) ⌝ }
+{
+    number(broker::add_path_rule(
+        system,
+        entries,
+        rulesets,
+        layers,
+        pool,
+        threads,
+        r,
+        e,
+        Rights(rights),
+        flags,
+    ))
+}
+
+#[no_mangle]
+pub extern "C" fn skein_add_port_rule(
+    system: &[u64],
+    entries: &[u64],
+    rulesets: &mut [u64],
+    layers: &[u64],
+    pool: &[u64],
+    threads: &[u64],
+    r: u64,
+    p: u64,
+    rights: u64,
+    flags: u64,
+) -> u64
+    ensures { λ answer. ⌜ Answers answer (after system entries rulesets layers pool threads) (portAdded (before system entries rulesets layers pool threads) r p rights flags) ⌝ }
+{
+    number(broker::add_port_rule(
+        system,
+        entries,
+        rulesets,
+        layers,
+        pool,
+        threads,
+        r,
+        p,
+        Rights(rights),
+        flags,
+    ))
+}
+
+#[no_mangle]
+pub extern "C" fn skein_restrict(
+    system: &mut [u64],
+    entries: &[u64],
+    rulesets: &[u64],
+    layers: &mut [u64],
+    pool: &mut [u64],
+    threads: &mut [u64],
+    t: u64,
+    r: u64,
+    flags: u64,
+) -> u64
+    ensures { λ answer. ⌜ Answers answer (after system entries rulesets layers pool threads) (restrictCall (before system entries rulesets layers pool threads) t r flags) ⌝ }
+{
+    number(broker::restrict(
+        system,
+        entries,
+        rulesets,
+        layers,
+        pool,
+        threads,
+        t,
+        r,
+        flags,
+    ))
+}
+
+#[no_mangle]
+pub extern "C" fn skein_clone(
+    system: &[u64],
+    entries: &[u64],
+    rulesets: &[u64],
+    layers: &[u64],
+    pool: &[u64],
+    threads: &mut [u64],
+    t: u64,
+) -> u64
+    ensures { λ answer. ⌜ Answers answer (after system entries rulesets layers pool threads) (cloned (before system entries rulesets layers pool threads) t) ⌝ }
+{
+    number(broker::clone_thread(system, entries, rulesets, layers, pool, threads, t))
+}
+
+#[no_mangle]
+pub extern "C" fn skein_set_no_new_privs(
+    system: &[u64],
+    entries: &[u64],
+    rulesets: &[u64],
+    layers: &[u64],
+    pool: &[u64],
+    threads: &mut [u64],
+    t: u64,
+) -> u64
+    ensures { λ answer. ⌜ Answers answer (after system entries rulesets layers pool threads) (privsSet (before system entries rulesets layers pool threads) t) ⌝ }
+{
+    number(broker::set_no_new_privs(system, entries, rulesets, layers, pool, threads, t))
+}
+
+#[no_mangle]
+pub extern "C" fn skein_set_admin(
+    system: &[u64],
+    entries: &[u64],
+    rulesets: &[u64],
+    layers: &[u64],
+    pool: &[u64],
+    threads: &mut [u64],
+    t: u64,
+    on: u64,
+) -> u64
+    ensures { λ answer. ⌜ Answers answer (after system entries rulesets layers pool threads) (adminSet (before system entries rulesets layers pool threads) t on) ⌝ }
+{
+    number(broker::set_admin(system, entries, rulesets, layers, pool, threads, t, on))
+}
+
+#[no_mangle]
+pub extern "C" fn skein_access(
+    system: &[u64],
+    entries: &[u64],
+    rulesets: &[u64],
+    layers: &[u64],
+    pool: &[u64],
+    threads: &[u64],
+    t: u64,
+    e: u64,
+    rights: u64,
+) -> u64
+    ensures { λ answer. ⌜ Answers answer (after system entries rulesets layers pool threads) (accessCall (before system entries rulesets layers pool threads) t e rights) ⌝ }
+{
+    number(broker::access(
+        system,
+        entries,
+        rulesets,
+        layers,
+        pool,
+        threads,
+        t,
+        e,
+        Rights(rights),
+    ))
+}
+
+#[no_mangle]
+pub extern "C" fn skein_port(
+    system: &[u64],
+    entries: &[u64],
+    rulesets: &[u64],
+    layers: &[u64],
+    pool: &[u64],
+    threads: &[u64],
+    t: u64,
+    p: u64,
+    rights: u64,
+) -> u64
+    ensures { λ answer. ⌜ Answers answer (after system entries rulesets layers pool threads) (portCall (before system entries rulesets layers pool threads) t p rights) ⌝ }
+{
+    number(broker::port(
+        system,
+        entries,
+        rulesets,
+        layers,
+        pool,
+        threads,
+        t,
+        p,
+        Rights(rights),
+    ))
+}
+
+#[no_mangle]
+pub extern "C" fn skein_create(
+    system: &mut [u64],
+    entries: &mut [u64],
+    rulesets: &[u64],
+    layers: &[u64],
+    pool: &[u64],
+    threads: &[u64],
+    t: u64,
+    d: u64,
+    k: u64,
+) -> u64
+    ensures { λ answer. ⌜ Answers answer (after system entries rulesets layers pool threads) (treeCreate (before system entries rulesets layers pool threads) t d k) ⌝ }
+{
+    number(broker_tree::create(system, entries, rulesets, layers, pool, threads, t, d, k))
+}
+
+#[no_mangle]
+pub extern "C" fn skein_remove(
+    system: &[u64],
+    entries: &mut [u64],
+    rulesets: &[u64],
+    layers: &[u64],
+    pool: &[u64],
+    threads: &[u64],
+    t: u64,
+    e: u64,
+) -> u64
+    ensures { λ answer. ⌜ Answers answer (after system entries rulesets layers pool threads) (treeRemove (before system entries rulesets layers pool threads) t e) ⌝ }
+{
+    number(broker_tree::remove(system, entries, rulesets, layers, pool, threads, t, e))
+}
+
+#[no_mangle]
+pub extern "C" fn skein_link(
+    system: &[u64],
+    entries: &mut [u64],
+    rulesets: &[u64],
+    layers: &[u64],
+    pool: &[u64],
+    threads: &[u64],
+    t: u64,
+    s: u64,
+    d: u64,
+) -> u64
+    ensures { λ answer. ⌜ Answers answer (after system entries rulesets layers pool threads) (treeLink (before system entries rulesets layers pool threads) t s d) ⌝ }
+{
+    number(broker_tree::link(system, entries, rulesets, layers, pool, threads, t, s, d))
+}
+
+#[no_mangle]
+pub extern "C" fn skein_rename(
+    system: &[u64],
+    entries: &mut [u64],
+    rulesets: &[u64],
+    layers: &[u64],
+    pool: &[u64],
+    threads: &[u64],
+    t: u64,
+    s: u64,
+    d: u64,
+    replaces: u64,
+    x: u64,
+) -> u64
+    ensures { λ answer. ⌜ Answers answer (after system entries rulesets layers pool threads) (treeRename (before system entries rulesets layers pool threads) t s d (replacedBy replaces x)) ⌝ }
+{
+    number(broker_tree::rename(
+        system,
+        entries,
+        rulesets,
+        layers,
+        pool,
+        threads,
+        t,
+        s,
+        d,
+        replaced_by(replaces, x),
+    ))
+}
+
+#[no_mangle]
+pub extern "C" fn skein_exchange(
+    system: &[u64],
+    entries: &mut [u64],
+    rulesets: &[u64],
+    layers: &[u64],
+    pool: &[u64],
+    threads: &[u64],
+    t: u64,
+    s: u64,
+    d: u64,
+    x: u64,
+) -> u64
+    ensures { λ answer. ⌜ Answers answer (after system entries rulesets layers pool threads) (treeExchange (before system entries rulesets layers pool threads) t s d x) ⌝ }
+{
+    number(broker_tree::exchange(system, entries, rulesets, layers, pool, threads, t, s, d, x))
+}
+
+// `span` receives the first pool cell of the layer's rules and their number of cells.
+#[no_mangle]
+pub extern "C" fn skein_layer_rules(
+    system: &[u64],
+    entries: &[u64],
+    rulesets: &[u64],
+    layers: &[u64],
+    pool: &[u64],
+    threads: &[u64],
+    l: u64,
+    span: &mut [u64],
+) -> u64
+    ensures answer { λ r. ⌜ r ≡ codeOf (layerCode (before system entries rulesets layers pool threads) l) ⌝ }
+    ensures part { λ r. ⌜ now (span .exit) ≡ set (set (now (span .entry)) 0 (spanFrom (before system entries rulesets layers pool threads) l)) 1 (length (layerPart (before system entries rulesets layers pool threads) l)) ⌝ }
+{
+    let mut code = 0;
+    let rules = broker::layer_rules(
+        system,
+        entries,
+        rulesets,
+        layers,
+        pool,
+        threads,
+        l,
+        &mut code,
+    );
+    let count = rules.len();
+    let from = span_from(layers, pool.len(), l, code);
+    write(span, 0, from as u64);
+    write(span, 1, count as u64);
+    code_of(code)
+}

@@ -1,0 +1,2 @@
+-- The starred cases, proved.
+pub mod Proved
