@@ -36,7 +36,14 @@ fn core_rights_on(rules: &[u64], object: u64) -> u64 {
 
 fn core_missing(entries: &[u64], rules: &[u64], e: u64, asked: u64) -> u64 {
     unsafe {
-        skein_measure_missing(entries.as_ptr(), entries.len(), rules.as_ptr(), rules.len(), e, asked)
+        skein_measure_missing(
+            entries.as_ptr(),
+            entries.len(),
+            rules.as_ptr(),
+            rules.len(),
+            e,
+            asked,
+        )
     }
 }
 

@@ -1,0 +1,363 @@
+/*
+ * Skeinrabbit: a file broker that answers as Linux's Landlock would.
+ *
+ * All state lies in one `struct skein_tables`, which the caller owns. Make it fresh once, then pass it to every call. Nothing is
+ * allocated, and a refused call changes no cell.
+ *
+ * Every call answers a number of zero or more (a new entry, ruleset or thread where one is made, else 0), or a negative error
+ * number. Each comment below lists a call's refusals in the order in which they are tested. Before all of them, every call but
+ * skeinrabbit_fresh answers -EIO if the tables are not sound. A number out of range counts as not live or not open.
+ *
+ * Calls on the same tables must not overlap in time.
+ */
+#ifndef SKEINRABBIT_H
+#define SKEINRABBIT_H
+
+#include <stddef.h>
+#include <stdint.h>
+
+#ifdef __cplusplus
+extern "C" {
+#endif
+
+/* Limits. */
+#define SKEIN_MAX_LEVEL 6
+#define SKEIN_MAX_ENTRIES 1024
+#define SKEIN_MAX_RULESETS 16
+#define SKEIN_MAX_RULES 64 /* in one ruleset */
+#define SKEIN_MAX_LAYERS 64
+#define SKEIN_MAX_DOMAIN_LAYERS 16 /* in one thread's domain */
+#define SKEIN_MAX_POOL_RULES 1024
+#define SKEIN_MAX_THREADS 8
+#define SKEIN_MAX_ATTR_SIZE 4096
+#define SKEIN_MAX_PORT 65535
+
+/* Cells of a rule and of a row of each table. */
+#define SKEIN_RULE_CELLS 3
+#define SKEIN_SYSTEM_CELLS 4
+#define SKEIN_ENTRY_CELLS 3
+#define SKEIN_RULESET_CELLS (4 + SKEIN_MAX_RULES * SKEIN_RULE_CELLS)
+#define SKEIN_LAYER_CELLS 6
+#define SKEIN_THREAD_CELLS 4
+
+/* The six tables. A free row is zero in every cell. */
+struct skein_tables {
+	/* level, next object number, layers used, pool rules used */
+	uint64_t system[SKEIN_SYSTEM_CELLS];
+	/* kind (0: free), parent, object number */
+	uint64_t entries[SKEIN_MAX_ENTRIES * SKEIN_ENTRY_CELLS];
+	/* handled_access_fs, handled_access_net, scoped, number of rules, rules */
+	uint64_t rulesets[SKEIN_MAX_RULESETS * SKEIN_RULESET_CELLS];
+	/* parent layer + 1 (0: none), the three masks, first pool rule, number of rules */
+	uint64_t layers[SKEIN_MAX_LAYERS * SKEIN_LAYER_CELLS];
+	/* rules: type, key (object number or port), allowed_access */
+	uint64_t pool[SKEIN_MAX_POOL_RULES * SKEIN_RULE_CELLS];
+	/* live, youngest layer + 1 (0: none), no_new_privs, admin */
+	uint64_t threads[SKEIN_MAX_THREADS * SKEIN_THREAD_CELLS];
+};
+
+/* File system rights, with Landlock's names and bits. */
+#define SKEIN_FS_EXECUTE (UINT64_C(1) << 0)
+#define SKEIN_FS_WRITE_FILE (UINT64_C(1) << 1)
+#define SKEIN_FS_READ_FILE (UINT64_C(1) << 2)
+#define SKEIN_FS_READ_DIR (UINT64_C(1) << 3)
+#define SKEIN_FS_REMOVE_DIR (UINT64_C(1) << 4)
+#define SKEIN_FS_REMOVE_FILE (UINT64_C(1) << 5)
+#define SKEIN_FS_MAKE_CHAR (UINT64_C(1) << 6)
+#define SKEIN_FS_MAKE_DIR (UINT64_C(1) << 7)
+#define SKEIN_FS_MAKE_REG (UINT64_C(1) << 8)
+#define SKEIN_FS_MAKE_SOCK (UINT64_C(1) << 9)
+#define SKEIN_FS_MAKE_FIFO (UINT64_C(1) << 10)
+#define SKEIN_FS_MAKE_BLOCK (UINT64_C(1) << 11)
+#define SKEIN_FS_MAKE_SYM (UINT64_C(1) << 12)
+#define SKEIN_FS_REFER (UINT64_C(1) << 13)     /* since level 2 */
+#define SKEIN_FS_TRUNCATE (UINT64_C(1) << 14)  /* since level 3 */
+#define SKEIN_FS_IOCTL_DEV (UINT64_C(1) << 15) /* since level 5 */
+
+/* The rights that make sense for an entry that is no directory. */
+#define SKEIN_FS_FILE_SET \
+	(SKEIN_FS_EXECUTE | SKEIN_FS_WRITE_FILE | SKEIN_FS_READ_FILE | SKEIN_FS_TRUNCATE | SKEIN_FS_IOCTL_DEV)
+
+/* Network rights, since level 4. */
+#define SKEIN_NET_BIND_TCP (UINT64_C(1) << 0)
+#define SKEIN_NET_CONNECT_TCP (UINT64_C(1) << 1)
+
+/* Scopes, since level 6. */
+#define SKEIN_SCOPE_ABSTRACT_UNIX_SOCKET (UINT64_C(1) << 0)
+#define SKEIN_SCOPE_SIGNAL (UINT64_C(1) << 1)
+
+/* Kinds of an entry. */
+#define SKEIN_KIND_REGULAR 1
+#define SKEIN_KIND_DIRECTORY 2
+#define SKEIN_KIND_CHARACTER 3
+#define SKEIN_KIND_BLOCK 4
+#define SKEIN_KIND_FIFO 5
+#define SKEIN_KIND_SOCKET 6
+#define SKEIN_KIND_SYMLINK 7
+
+/* Types of a rule in a cell. */
+#define SKEIN_RULE_PATH 1
+#define SKEIN_RULE_PORT 2
+
+/* Entry and thread that fresh tables hold. */
+#define SKEIN_ROOT 0
+#define SKEIN_FIRST_THREAD 0
+
+/* Error numbers: Linux's, whatever the C library's errno.h says. */
+#define SKEIN_EPERM 1
+#define SKEIN_ENOENT 2
+#define SKEIN_ESRCH 3
+#define SKEIN_EIO 5
+#define SKEIN_E2BIG 7
+#define SKEIN_EBADF 9
+#define SKEIN_EAGAIN 11
+#define SKEIN_ENOMEM 12
+#define SKEIN_EACCES 13
+#define SKEIN_EBUSY 16
+#define SKEIN_EXDEV 18
+#define SKEIN_ENOTDIR 20
+#define SKEIN_EISDIR 21
+#define SKEIN_EINVAL 22
+#define SKEIN_EMFILE 24
+#define SKEIN_ENOSPC 28
+#define SKEIN_ENOTEMPTY 39
+#define SKEIN_ENOMSG 42
+#define SKEIN_EOPNOTSUPP 95
+
+/*
+ * A ruleset's attribute. Its masks are little-endian, so on a machine of the other order fill the bytes yourself.
+ */
+struct skein_ruleset_attr {
+	uint64_t handled_access_fs;
+	uint64_t handled_access_net;
+	uint64_t scoped;
+};
+
+/*
+ * The functions of the archive: each table as pointer and number of cells, then the arguments. The result is the success number,
+ * or 2^64 minus the error number. Prefer the inline functions further down.
+ */
+#define SKEIN_TABLE_PARAMETERS \
+	uint64_t *system_cells, size_t system_length, uint64_t *entries, size_t entries_length, uint64_t *rulesets, \
+		size_t rulesets_length, uint64_t *layers, size_t layers_length, uint64_t *pool, size_t pool_length, \
+		uint64_t *threads, size_t threads_length
+
+extern uint64_t skein_fresh(SKEIN_TABLE_PARAMETERS, uint64_t level);
+extern uint64_t skein_create_ruleset(SKEIN_TABLE_PARAMETERS, const uint8_t *attr, size_t size, uint64_t flags);
+extern uint64_t skein_close_ruleset(SKEIN_TABLE_PARAMETERS, uint64_t ruleset);
+extern uint64_t skein_add_path_rule(SKEIN_TABLE_PARAMETERS, uint64_t ruleset, uint64_t entry, uint64_t rights, uint64_t flags);
+extern uint64_t skein_add_port_rule(SKEIN_TABLE_PARAMETERS, uint64_t ruleset, uint64_t port, uint64_t rights, uint64_t flags);
+extern uint64_t skein_restrict(SKEIN_TABLE_PARAMETERS, uint64_t thread, uint64_t ruleset, uint64_t flags);
+extern uint64_t skein_layer_rules(SKEIN_TABLE_PARAMETERS, uint64_t layer, uint64_t *part, size_t part_length);
+extern uint64_t skein_clone(SKEIN_TABLE_PARAMETERS, uint64_t thread);
+extern uint64_t skein_set_no_new_privs(SKEIN_TABLE_PARAMETERS, uint64_t thread);
+extern uint64_t skein_set_admin(SKEIN_TABLE_PARAMETERS, uint64_t thread, uint64_t on);
+extern uint64_t skein_access(SKEIN_TABLE_PARAMETERS, uint64_t thread, uint64_t entry, uint64_t rights);
+extern uint64_t skein_port(SKEIN_TABLE_PARAMETERS, uint64_t thread, uint64_t port, uint64_t rights);
+extern uint64_t skein_create(SKEIN_TABLE_PARAMETERS, uint64_t thread, uint64_t directory, uint64_t kind);
+extern uint64_t skein_remove(SKEIN_TABLE_PARAMETERS, uint64_t thread, uint64_t entry);
+extern uint64_t skein_link(SKEIN_TABLE_PARAMETERS, uint64_t thread, uint64_t source, uint64_t directory);
+extern uint64_t skein_rename(SKEIN_TABLE_PARAMETERS, uint64_t thread, uint64_t source, uint64_t directory, uint64_t replaces,
+			     uint64_t entry);
+extern uint64_t skein_exchange(SKEIN_TABLE_PARAMETERS, uint64_t thread, uint64_t source, uint64_t directory, uint64_t entry);
+
+/* The tables of a struct as the arguments of an archive's function. */
+#define SKEIN_TABLE_ARGUMENTS(t) \
+	(t)->system, sizeof((t)->system) / sizeof(uint64_t), (t)->entries, sizeof((t)->entries) / sizeof(uint64_t), \
+		(t)->rulesets, sizeof((t)->rulesets) / sizeof(uint64_t), (t)->layers, \
+		sizeof((t)->layers) / sizeof(uint64_t), (t)->pool, sizeof((t)->pool) / sizeof(uint64_t), (t)->threads, \
+		sizeof((t)->threads) / sizeof(uint64_t)
+
+/* 2^64 minus an error number, read as the negative error number. */
+static inline int64_t skeinrabbit_answer(uint64_t result)
+{
+	if (result > (uint64_t)INT64_MAX)
+		return -(int64_t)(UINT64_MAX - result) - 1;
+	return (int64_t)result;
+}
+
+/*
+ * Makes fresh tables: entry 0 (the root directory) and thread 0 with no layer and both marks off.
+ * EINVAL level above 6. Level 0 is Landlock disabled.
+ */
+static inline int64_t skeinrabbit_fresh(struct skein_tables *t, uint64_t level)
+{
+	return skeinrabbit_answer(skein_fresh(SKEIN_TABLE_ARGUMENTS(t), level));
+}
+
+/*
+ * Opens a ruleset; answers its number. `attr` points to `size` bytes, usually of a struct skein_ruleset_attr.
+ * EOPNOTSUPP level 0; EINVAL flags not 0; EINVAL fewer than 8 bytes; E2BIG more than 4,096; E2BIG a byte that is not zero past
+ * the size known to the level; EINVAL a bit unknown to the level; ENOMSG all masks zero; EMFILE no free ruleset.
+ */
+static inline int64_t skeinrabbit_create_ruleset(struct skein_tables *t, const void *attr, size_t size, uint64_t flags)
+{
+	const uint8_t no_bytes = 0;
+	const uint8_t *const bytes = size == 0 ? &no_bytes : (const uint8_t *)attr;
+
+	return skeinrabbit_answer(skein_create_ruleset(SKEIN_TABLE_ARGUMENTS(t), bytes, size, flags));
+}
+
+/*
+ * Closes a ruleset; layers made of it stay.
+ * EBADF ruleset not open.
+ */
+static inline int64_t skeinrabbit_close_ruleset(struct skein_tables *t, uint64_t ruleset)
+{
+	return skeinrabbit_answer(skein_close_ruleset(SKEIN_TABLE_ARGUMENTS(t), ruleset));
+}
+
+/*
+ * Adds a rule on an entry's object; a rule already there joins the rights.
+ * EOPNOTSUPP level 0; EINVAL flags not 0; EBADF ruleset not open; ENOMSG rights empty; EINVAL rights outside those handled;
+ * EBADF entry not live; EINVAL entry no directory and rights outside the file set; E2BIG a new object with 64 rules present.
+ */
+static inline int64_t skeinrabbit_add_path_rule(struct skein_tables *t, uint64_t ruleset, uint64_t entry, uint64_t rights,
+						uint64_t flags)
+{
+	return skeinrabbit_answer(skein_add_path_rule(SKEIN_TABLE_ARGUMENTS(t), ruleset, entry, rights, flags));
+}
+
+/*
+ * Adds a rule on a TCP port; a rule already there joins the rights.
+ * EOPNOTSUPP level 0; EINVAL flags not 0; EBADF ruleset not open; ENOMSG rights empty; EINVAL rights outside those handled;
+ * EINVAL port above 65,535; E2BIG a new port with 64 rules present.
+ */
+static inline int64_t skeinrabbit_add_port_rule(struct skein_tables *t, uint64_t ruleset, uint64_t port, uint64_t rights,
+						uint64_t flags)
+{
+	return skeinrabbit_answer(skein_add_port_rule(SKEIN_TABLE_ARGUMENTS(t), ruleset, port, rights, flags));
+}
+
+/*
+ * Gives a thread one more layer, a copy of the ruleset at this moment.
+ * ESRCH thread not live; EOPNOTSUPP level 0; EPERM neither no_new_privs nor admin; EINVAL flags not 0; EBADF ruleset not open;
+ * E2BIG 16 layers already; ENOMEM no layer record or too few pool rules left.
+ */
+static inline int64_t skeinrabbit_restrict(struct skein_tables *t, uint64_t thread, uint64_t ruleset, uint64_t flags)
+{
+	return skeinrabbit_answer(skein_restrict(SKEIN_TABLE_ARGUMENTS(t), thread, ruleset, flags));
+}
+
+/*
+ * Shows a layer's rules as a part of the pool: `*rules` points to the first cell, `*cells` is their number, 3 for each rule. With
+ * a refusal the part is empty.
+ * EBADF layer not in use.
+ */
+static inline int64_t skeinrabbit_layer_rules(struct skein_tables *t, uint64_t layer, const uint64_t **rules, size_t *cells)
+{
+	uint64_t part[2] = { 0, 0 };
+	const uint64_t result = skein_layer_rules(SKEIN_TABLE_ARGUMENTS(t), layer, part, 2);
+
+	*rules = t->pool + part[0];
+	*cells = (size_t)part[1];
+	return skeinrabbit_answer(result);
+}
+
+/*
+ * Makes a thread with a copy of this one's domain and marks; answers its number.
+ * ESRCH thread not live; EAGAIN no free thread.
+ */
+static inline int64_t skeinrabbit_clone(struct skein_tables *t, uint64_t thread)
+{
+	return skeinrabbit_answer(skein_clone(SKEIN_TABLE_ARGUMENTS(t), thread));
+}
+
+/*
+ * Sets a thread's no_new_privs mark, once for all.
+ * ESRCH thread not live.
+ */
+static inline int64_t skeinrabbit_set_no_new_privs(struct skein_tables *t, uint64_t thread)
+{
+	return skeinrabbit_answer(skein_set_no_new_privs(SKEIN_TABLE_ARGUMENTS(t), thread));
+}
+
+/*
+ * Sets a thread's admin mark, or clears it if `on` is 0.
+ * ESRCH thread not live.
+ */
+static inline int64_t skeinrabbit_set_admin(struct skein_tables *t, uint64_t thread, uint64_t on)
+{
+	return skeinrabbit_answer(skein_set_admin(SKEIN_TABLE_ARGUMENTS(t), thread, on));
+}
+
+/*
+ * Asks whether a thread may use an entry with all of the rights.
+ * ESRCH thread not live; ENOENT entry not live; EINVAL rights empty, a bit above 15, or a bit outside the file set for an entry
+ * that is no directory; EACCES a right not granted.
+ */
+static inline int64_t skeinrabbit_access(struct skein_tables *t, uint64_t thread, uint64_t entry, uint64_t rights)
+{
+	return skeinrabbit_answer(skein_access(SKEIN_TABLE_ARGUMENTS(t), thread, entry, rights));
+}
+
+/*
+ * Asks whether a thread may use a TCP port with all of the rights.
+ * ESRCH thread not live; EINVAL port above 65,535; EINVAL rights empty or a bit above 1; EACCES a right not granted.
+ */
+static inline int64_t skeinrabbit_port(struct skein_tables *t, uint64_t thread, uint64_t port, uint64_t rights)
+{
+	return skeinrabbit_answer(skein_port(SKEIN_TABLE_ARGUMENTS(t), thread, port, rights));
+}
+
+/*
+ * Creates an entry of a kind in a directory; answers its number.
+ * ESRCH thread not live; ENOENT directory not live; ENOTDIR it is no directory; EINVAL unknown kind; EACCES MAKE of the kind
+ * denied; ENOSPC no free entry or no object number left.
+ */
+static inline int64_t skeinrabbit_create(struct skein_tables *t, uint64_t thread, uint64_t directory, uint64_t kind)
+{
+	return skeinrabbit_answer(skein_create(SKEIN_TABLE_ARGUMENTS(t), thread, directory, kind));
+}
+
+/*
+ * Removes an entry.
+ * ESRCH thread not live; ENOENT entry not live; EBUSY it is the root; EACCES REMOVE of its kind denied at its parent;
+ * ENOTEMPTY a directory with entries.
+ */
+static inline int64_t skeinrabbit_remove(struct skein_tables *t, uint64_t thread, uint64_t entry)
+{
+	return skeinrabbit_answer(skein_remove(SKEIN_TABLE_ARGUMENTS(t), thread, entry));
+}
+
+/*
+ * Makes a hard link to the source's object in a directory; answers the new entry.
+ * ESRCH thread not live; ENOENT source or directory not live; EBUSY source is the root; ENOTDIR target is no directory; EPERM
+ * source is a directory; EACCES MAKE denied; EXDEV REFER denied, or the link would gain a right; ENOSPC no free entry.
+ */
+static inline int64_t skeinrabbit_link(struct skein_tables *t, uint64_t thread, uint64_t source, uint64_t directory)
+{
+	return skeinrabbit_answer(skein_link(SKEIN_TABLE_ARGUMENTS(t), thread, source, directory));
+}
+
+/*
+ * Moves an entry to a directory; if `replaces` is not 0, in place of `entry`, which is then freed. The source keeps its number.
+ * ESRCH thread not live; ENOENT source, directory or replaced entry not live; EBUSY source or replaced entry is the root;
+ * ENOTDIR target is no directory; EINVAL replaced entry not in the directory; EINVAL source is the directory or above it; EACCES
+ * REMOVE or MAKE denied; EXDEV REFER denied, or the source would gain a right; both the same object: 0, nothing changes;
+ * ENOTDIR a directory over another kind; EISDIR the reverse; ENOTEMPTY replaced directory with entries.
+ */
+static inline int64_t skeinrabbit_rename(struct skein_tables *t, uint64_t thread, uint64_t source, uint64_t directory,
+					 uint64_t replaces, uint64_t entry)
+{
+	return skeinrabbit_answer(skein_rename(SKEIN_TABLE_ARGUMENTS(t), thread, source, directory, replaces, entry));
+}
+
+/*
+ * Exchanges an entry with an entry of a directory.
+ * ESRCH thread not live; ENOENT source, directory or other entry not live; EBUSY source or other entry is the root; ENOTDIR
+ * target is no directory; EINVAL other entry not in the directory; EINVAL source is the directory or above it; EINVAL other
+ * entry is the source's parent or above it; EACCES REMOVE or MAKE denied; EXDEV REFER denied, or either would gain a right.
+ * Both the same object: 0, nothing changes.
+ */
+static inline int64_t skeinrabbit_exchange(struct skein_tables *t, uint64_t thread, uint64_t source, uint64_t directory,
+					   uint64_t entry)
+{
+	return skeinrabbit_answer(skein_exchange(SKEIN_TABLE_ARGUMENTS(t), thread, source, directory, entry));
+}
+
+#ifdef __cplusplus
+}
+#endif
+
+#endif

@@ -1,0 +1,418 @@
+//! Random requests that make sense on both sides.
+
+use crate::broker::{Broker, MAX_ENTRIES, MAX_RULESETS};
+use crate::machine::Machine;
+use crate::random::Random;
+use crate::request::Request;
+use crate::rights::*;
+
+/// Ports above the ephemeral ones, and port 0.
+pub const PORTS: [u64; 5] = [0, 61_001, 61_002, 61_003, 65_535];
+
+/// A flag that no kernel knows.
+const UNKNOWN_FLAGS: [u64; 2] = [1 << 16, 1 << 31];
+/// Those that turn logging on or off in landlock_restrict_self(2).
+const LOG_FLAGS: [u64; 4] = [1, 2, 4, 7];
+
+/// Chooses requests for the tables as they are.
+pub struct Generator<'a> {
+    pub random: &'a mut Random,
+    pub tables: &'a Broker,
+    pub machine: &'a Machine,
+}
+
+type Choice = fn(&mut Generator) -> Request;
+
+const CHOICES: [(u64, Choice); 14] = [
+    (24, |g| g.access()),
+    (6, |g| g.port()),
+    (9, |g| g.create()),
+    (8, |g| g.remove()),
+    (12, |g| g.link()),
+    (24, |g| g.rename()),
+    (12, |g| g.exchange()),
+    (3, |g| g.create_ruleset()),
+    (2, |g| g.close_ruleset()),
+    (6, |g| g.add_path_rule()),
+    (2, |g| g.add_port_rule()),
+    (2, |g| g.restrict()),
+    (1, |g| g.clone()),
+    (1, |g| g.mark()),
+];
+
+impl Generator<'_> {
+    /// Any request.
+    pub fn request(&mut self) -> Request {
+        let choice = self.random.weighted(&CHOICES);
+        match choice(self) {
+            Request::Port { .. } if !self.machine.tcp => self.access(),
+            Request::Exchange { .. } if !self.machine.exchange => self.rename(),
+            request => request,
+        }
+    }
+
+    /// A request that lets the tree grow.
+    pub fn growth(&mut self) -> Request {
+        if self.random.percent(85) {
+            self.create()
+        } else {
+            self.link()
+        }
+    }
+
+    /// A live thread, most often one with a domain.
+    fn thread(&mut self) -> u64 {
+        let live = self.tables.live_threads();
+        let restricted: Vec<u64> = live
+            .iter()
+            .copied()
+            .filter(|&thread| self.tables.is_restricted(thread))
+            .collect();
+        if !restricted.is_empty() && self.random.percent(85) {
+            self.random.pick(&restricted)
+        } else {
+            self.random.pick(&live)
+        }
+    }
+
+    /// A live entry, or now and then one that is not.
+    fn entry(&mut self) -> u64 {
+        if self.random.percent(2) {
+            self.absent_entry()
+        } else {
+            self.random.pick(&self.tables.live_entries())
+        }
+    }
+
+    fn absent_entry(&mut self) -> u64 {
+        if self.random.percent(50) {
+            MAX_ENTRIES + self.random.below(3)
+        } else {
+            self.tables.live_entries().len() as u64 + 500
+        }
+    }
+
+    /// Most often a directory.
+    fn directory(&mut self) -> u64 {
+        if self.random.percent(6) {
+            return self.entry();
+        }
+        let mut live = self.tables.live_entries();
+        live.retain(|&entry| self.tables.is_directory(entry));
+        self.random.pick(&live)
+    }
+
+    fn kind(&mut self) -> u64 {
+        let kind = self.random.weighted(&[
+            (38, DIRECTORY),
+            (32, REGULAR),
+            (6, FIFO),
+            (6, SOCKET),
+            (7, SYMLINK),
+            (6, CHARACTER),
+            (4, BLOCK),
+            (1, 8),
+        ]);
+        match kind {
+            CHARACTER if !self.machine.character_devices => REGULAR,
+            BLOCK if !self.machine.block_devices => REGULAR,
+            kind => kind,
+        }
+    }
+
+    /// An access that Linux asks by one operation; a move where the entry is of a kind that is not opened.
+    fn access(&mut self) -> Request {
+        let entry = self.entry();
+        let rights = match self.tables.kind(entry) {
+            DIRECTORY => self.rights_of_directory(),
+            REGULAR => self.rights_of_regular(),
+            CHARACTER => self.rights_of_device(),
+            FIFO | SOCKET => self.rights_of_pipe(),
+            SYMLINK if self.random.percent(90) => return self.rename(),
+            BLOCK => return self.rename(),
+            _ => READ_FILE,
+        };
+        let rights = if self.machine.execve_check {
+            rights
+        } else {
+            rights & !EXECUTE
+        };
+        let thread = self.thread();
+        Request::Access {
+            thread,
+            entry,
+            rights,
+        }
+    }
+
+    fn rights_of_directory(&mut self) -> u64 {
+        let execute = READ_FILE | EXECUTE;
+        self.random
+            .weighted(&[(94, READ_DIR), (2, WRITE_FILE), (2, TRUNCATE), (2, execute)])
+    }
+
+    fn rights_of_device(&mut self) -> u64 {
+        let both = READ_FILE | WRITE_FILE;
+        let ioctl = READ_FILE | IOCTL_DEV;
+        self.random
+            .pick(&[READ_FILE, WRITE_FILE, both, IOCTL_DEV, ioctl])
+    }
+
+    fn rights_of_pipe(&mut self) -> u64 {
+        self.random.weighted(&[
+            (30, READ_FILE),
+            (30, WRITE_FILE),
+            (30, READ_FILE | WRITE_FILE),
+            (3, TRUNCATE),
+            (3, READ_FILE | EXECUTE),
+            (3, READ_DIR),
+        ])
+    }
+
+    fn rights_of_regular(&mut self) -> u64 {
+        self.random.weighted(&[
+            (20, READ_FILE),
+            (20, WRITE_FILE),
+            (10, READ_FILE | WRITE_FILE),
+            (10, TRUNCATE),
+            (5, READ_FILE | TRUNCATE),
+            (10, WRITE_FILE | TRUNCATE),
+            (5, READ_FILE | WRITE_FILE | TRUNCATE),
+            (18, READ_FILE | EXECUTE),
+            (1, IOCTL_DEV),
+            (1, READ_DIR),
+        ])
+    }
+
+    fn port(&mut self) -> Request {
+        let rights = self.random.between(1, BIND_TCP | CONNECT_TCP);
+        Request::Port {
+            thread: self.thread(),
+            port: self.random.pick(&PORTS),
+            rights,
+        }
+    }
+
+    fn create(&mut self) -> Request {
+        Request::Create {
+            thread: self.thread(),
+            directory: self.directory(),
+            kind: self.kind(),
+        }
+    }
+
+    fn remove(&mut self) -> Request {
+        Request::Remove {
+            thread: self.thread(),
+            entry: self.entry(),
+        }
+    }
+
+    fn link(&mut self) -> Request {
+        let mut source = self.entry();
+        if self.tables.is_directory(source) && self.random.percent(80) {
+            source = self.entry();
+        }
+        Request::Link {
+            thread: self.thread(),
+            source,
+            directory: self.directory(),
+        }
+    }
+
+    /// A replaced entry is live, since Linux knows it by its name.
+    fn rename(&mut self) -> Request {
+        let mut directory = self.directory();
+        let mut replaced = None;
+        if self.random.percent(50) {
+            let entry = self.entry();
+            if self.tables.is_live(entry) {
+                directory = self.directory_of(entry, directory);
+                replaced = Some(entry);
+            }
+        }
+        Request::Rename {
+            thread: self.thread(),
+            source: self.entry(),
+            directory,
+            replaced,
+        }
+    }
+
+    fn exchange(&mut self) -> Request {
+        let directory = self.directory();
+        let other = self.entry();
+        Request::Exchange {
+            thread: self.thread(),
+            source: self.entry(),
+            directory: self.directory_of(other, directory),
+            other,
+        }
+    }
+
+    /// The directory that a path to an entry goes through: its own, unless another answer comes before that matters.
+    fn directory_of(&self, entry: u64, otherwise: u64) -> u64 {
+        if entry != 0 && self.tables.is_live(entry) && self.tables.is_directory(otherwise) {
+            self.tables.parent(entry)
+        } else {
+            otherwise
+        }
+    }
+
+    /// Bits of the mask: all, all but a few, a few, or any.
+    fn subset(&mut self, mask: u64) -> u64 {
+        let few = |random: &mut Random| {
+            (0..random.between(1, 3)).fold(0, |bits, _| bits | 1 << random.below(16))
+        };
+        match self.random.below(10) {
+            0..4 => mask,
+            4..7 => mask & !few(self.random),
+            7 => mask & few(self.random),
+            _ => mask & self.random.number(),
+        }
+    }
+
+    pub fn create_ruleset(&mut self) -> Request {
+        let [fs, net, scope] = known(self.tables.level());
+        let masks = match self.random.below(100) {
+            0..3 => [0, self.subset(net), self.subset(scope)],
+            3..60 => [self.subset(fs), 0, 0],
+            60..95 => [self.subset(fs), self.subset(net), self.subset(scope)],
+            _ => [fs, net, scope].map(|mask| self.subset(mask) | self.unknown_bit(mask)),
+        };
+        let mut attr: Vec<u8> = masks.iter().flat_map(|mask| mask.to_le_bytes()).collect();
+        let meaningless = self.machine.meaningless_byte();
+        match self.random.below(100) {
+            0..70 => {}
+            70..80 => attr.truncate(8 * self.random.between(1, 3) as usize),
+            80..85 => attr.truncate(self.random.below(25) as usize),
+            85..92 => attr.resize(self.random.between(24, 64) as usize, 0),
+            92..94 => attr.resize(self.random.between(4095, 4098) as usize, 0),
+            _ => {
+                attr.resize(meaningless as usize + 1 + self.random.below(40) as usize, 0);
+                let last = attr.len() - 1;
+                attr[last] = 1;
+            }
+        }
+        let flags = if self.random.percent(4) {
+            self.random.pick(&[1, 2, 3, 1 << 31])
+        } else {
+            0
+        };
+        Request::CreateRuleset { attr, flags }
+    }
+
+    /// A bit that no kernel knows, now and then, for a mask that the level has.
+    fn unknown_bit(&mut self, known: u64) -> u64 {
+        if known != 0 && self.random.percent(40) {
+            1 << self.random.between(40, 63)
+        } else {
+            0
+        }
+    }
+
+    /// An open ruleset, or now and then one that is not.
+    fn ruleset(&mut self) -> u64 {
+        let open = self.tables.open_rulesets();
+        if open.is_empty() || self.random.percent(4) {
+            self.random
+                .pick(&[MAX_RULESETS - 1, MAX_RULESETS, u64::MAX])
+        } else {
+            self.random.pick(&open)
+        }
+    }
+
+    fn close_ruleset(&mut self) -> Request {
+        Request::CloseRuleset {
+            ruleset: self.ruleset(),
+        }
+    }
+
+    pub fn add_path_rule(&mut self) -> Request {
+        let ruleset = self.ruleset();
+        let entry = match self.random.below(100) {
+            0..25 => 0,
+            25..75 => self.directory(),
+            _ => self.entry(),
+        };
+        let handled = self.tables.handled(ruleset)[0];
+        let fitting = if self.tables.is_directory(entry) {
+            handled
+        } else {
+            handled & FILE_SET
+        };
+        let rights = match self.random.below(100) {
+            0..90 => self.subset(fitting),
+            90..94 => self.subset(handled),
+            94..96 => self.subset(known(self.tables.level())[0]),
+            96..98 => 0,
+            _ => handled | 1 << self.random.between(16, 63),
+        };
+        Request::AddPathRule {
+            ruleset,
+            entry,
+            rights,
+            flags: self.rule_flags(),
+        }
+    }
+
+    pub fn add_port_rule(&mut self) -> Request {
+        let ruleset = self.ruleset();
+        let handled = self.tables.handled(ruleset)[1];
+        let rights = match self.random.below(100) {
+            0..90 => self.subset(handled),
+            90..95 => self.random.below(4),
+            _ => 1 << self.random.between(2, 63),
+        };
+        let port = if self.random.percent(5) {
+            self.random.pick(&[65_536, 1 << 32, u64::MAX])
+        } else {
+            self.random.pick(&PORTS)
+        };
+        Request::AddPortRule {
+            ruleset,
+            port,
+            rights,
+            flags: self.rule_flags(),
+        }
+    }
+
+    fn rule_flags(&mut self) -> u64 {
+        if self.random.percent(2) {
+            self.random.pick(&UNKNOWN_FLAGS)
+        } else {
+            0
+        }
+    }
+
+    fn restrict(&mut self) -> Request {
+        let flags = match self.random.below(100) {
+            0..3 => self.random.pick(&LOG_FLAGS),
+            3..7 => self.random.pick(&UNKNOWN_FLAGS),
+            _ => 0,
+        };
+        Request::Restrict {
+            thread: self.thread(),
+            ruleset: self.ruleset(),
+            flags,
+        }
+    }
+
+    fn clone(&mut self) -> Request {
+        Request::Clone {
+            thread: self.thread(),
+        }
+    }
+
+    fn mark(&mut self) -> Request {
+        let thread = self.thread();
+        if self.machine.admin && self.random.percent(60) {
+            Request::SetAdmin {
+                thread,
+                on: self.random.percent(50),
+            }
+        } else {
+            Request::SetNoNewPrivs { thread }
+        }
+    }
+}

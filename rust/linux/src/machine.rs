@@ -1,0 +1,113 @@
+//! What this machine can compare.
+
+use crate::operation::Operation;
+use crate::rights::*;
+use crate::sys::{self, landlock};
+
+pub struct Machine {
+    pub abi: i64,
+    /// This program has CAP_SYS_ADMIN.
+    pub admin: bool,
+    /// This program was started with no_new_privs.
+    pub no_new_privs: bool,
+    pub character_devices: bool,
+    pub block_devices: bool,
+    pub execve_check: bool,
+    pub exchange: bool,
+    pub tcp: bool,
+    /// A regular file, where symlinks lead.
+    pub plain_file: String,
+}
+
+impl Machine {
+    /// Tries each thing in a directory that is the working directory and has nothing else in it.
+    pub fn probe(directory: &str) -> Machine {
+        let plain_file = format!("{directory}/plain");
+        assert_eq!(create(REGULAR, "plain"), 0, "create {plain_file}");
+        assert_eq!(sys::link("plain", "link"), 0, "hard links in {directory}");
+        let character_devices =
+            create(CHARACTER, "character") == 0 && granted(READ_FILE | WRITE_FILE, "character");
+        let abi = landlock::abi();
+        Machine {
+            abi,
+            admin: sys::is_admin(),
+            no_new_privs: sys::has_no_new_privs(),
+            character_devices,
+            block_devices: create(BLOCK, "block") == 0,
+            execve_check: granted(READ_FILE | EXECUTE, "plain"),
+            exchange: sys::rename("plain", "link", sys::RENAME_EXCHANGE) == 0,
+            tcp: abi >= 4
+                && Operation::Tcp {
+                    port: 0,
+                    rights: BIND_TCP,
+                }
+                .run()
+                    == 0,
+            plain_file,
+        }
+    }
+
+    /// The highest level of the tables that has no right unknown to the kernel.
+    pub fn top_level(&self) -> u64 {
+        self.abi.clamp(1, TOP_LEVEL as i64) as u64
+    }
+
+    /// The first byte of an attribute that no kernel of this ABI gives a meaning.
+    pub fn meaningless_byte(&self) -> u64 {
+        if self.abi <= 7 {
+            24
+        } else {
+            256
+        }
+    }
+
+    /// What is not compared, with the reason.
+    pub fn left_out(&self) -> Vec<&'static str> {
+        let mut reasons = ALWAYS_LEFT_OUT.to_vec();
+        let tests = [
+            (
+                self.character_devices,
+                "character devices and IOCTL_DEV: mknod(2) or open(2) of a device is not permitted",
+            ),
+            (
+                self.block_devices,
+                "block devices: mknod(2) is not permitted",
+            ),
+            (
+                self.execve_check,
+                "EXECUTE: execveat(2) has no AT_EXECVE_CHECK, or the file system is mounted noexec",
+            ),
+            (
+                self.exchange,
+                "exchange: the file system has no RENAME_EXCHANGE",
+            ),
+            (
+                self.tcp,
+                "ports: the kernel has no network rights, or TCP sockets are not permitted",
+            ),
+            (
+                self.admin,
+                "the admin mark: this program has no CAP_SYS_ADMIN",
+            ),
+        ];
+        reasons.extend(tests.iter().filter(|test| !test.0).map(|test| test.1));
+        reasons
+    }
+}
+
+const ALWAYS_LEFT_OUT: [&str; 6] = [
+    "EOPNOTSUPP (level 0): Landlock cannot be switched off in a running kernel",
+    "EIO: the kernel's own state cannot be damaged from outside",
+    "ESRCH: a thread that is not live makes no system call",
+    "layer_rules: the kernel does not show a domain's rules",
+    "opening block devices: an open may load a driver",
+    "arguments without a counterpart: entries not in the directory named, rights that no single operation asks for",
+];
+
+fn create(kind: u64, path: &str) -> i64 {
+    Operation::creating(kind, path.to_string(), "").run()
+}
+
+fn granted(rights: u64, path: &str) -> bool {
+    Operation::accessing(rights, path.to_string()).is_some_and(|operation| operation.run() == 0)
+}

@@ -1,0 +1,218 @@
+//! One scenario: the same tree, rulesets and requests on both sides.
+
+use crate::broker::Broker;
+use crate::differences::{classify, Difference};
+use crate::generate::Generator;
+use crate::kernel::{kind_of, Kernel};
+use crate::limits;
+use crate::machine::Machine;
+use crate::orders;
+use crate::random::Random;
+use crate::request::Request;
+use crate::rights::outcome;
+use crate::tally::Tally;
+use std::collections::{BTreeMap, BTreeSet};
+use std::fs;
+use std::os::unix::fs::MetadataExt;
+
+/// Why a scenario ended early.
+pub enum Stop {
+    /// Only one side granted a change, for a known reason.
+    Known,
+    /// The sides differ for no known reason: the scenario in words.
+    Unknown(String),
+}
+
+pub struct Scenario<'a> {
+    pub random: Random,
+    pub machine: &'a Machine,
+    pub tables: Broker,
+    kernel: Kernel,
+    tally: &'a mut Tally,
+    lines: Vec<String>,
+}
+
+impl<'a> Scenario<'a> {
+    /// Fresh tables and an empty directory.
+    pub fn new(seed: u64, root: &str, machine: &'a Machine, tally: &'a mut Tally) -> Scenario<'a> {
+        let mut random = Random::new(seed);
+        let top = machine.top_level();
+        let level = if random.percent(75) {
+            top
+        } else {
+            random.between(1, top)
+        };
+        Scenario {
+            random,
+            machine,
+            tables: Broker::new(level),
+            kernel: Kernel::new(root, &machine.plain_file),
+            tally,
+            lines: vec![format!("# seed {seed}"), format!("fresh {level}")],
+        }
+    }
+
+    /// Plays it to the end.
+    pub fn play(mut self) -> Result<(), Stop> {
+        self.align_marks()?;
+        match self.random.below(100) {
+            0..2 => orders::play(&mut self)?,
+            2..8 => limits::play(&mut self)?,
+            _ => self.play_random()?,
+        }
+        self.compare_trees()
+    }
+
+    /// Gives thread 0 the marks that a new thread of this program has.
+    fn align_marks(&mut self) -> Result<(), Stop> {
+        if self.machine.admin {
+            self.ask(Request::SetAdmin {
+                thread: 0,
+                on: true,
+            })?;
+        }
+        if self.machine.no_new_privs {
+            self.ask(Request::SetNoNewPrivs { thread: 0 })?;
+        }
+        Ok(())
+    }
+
+    fn play_random(&mut self) -> Result<(), Stop> {
+        self.set_up()?;
+        for _ in 0..self.random.between(40, 100) {
+            self.ask_any(|g| g.request())?;
+        }
+        Ok(())
+    }
+
+    /// A tree, rulesets with rules, and a thread with a domain of one to four layers.
+    fn set_up(&mut self) -> Result<(), Stop> {
+        for _ in 0..self.random.between(6, 30) {
+            self.ask_any(|g| g.growth())?;
+        }
+        for _ in 0..self.random.between(1, 4) {
+            self.ask_any(|g| g.create_ruleset())?;
+        }
+        for _ in 0..self.random.between(2, 16) {
+            self.ask_any(|g| g.add_path_rule())?;
+        }
+        for _ in 0..self.random.below(4) {
+            self.ask_any(|g| g.add_port_rule())?;
+        }
+        self.ask(Request::Clone { thread: 0 })?;
+        if self.random.percent(90) {
+            self.ask(Request::SetNoNewPrivs { thread: 1 })?;
+        }
+        for ruleset in self.tables.open_rulesets() {
+            self.ask(Request::Restrict {
+                thread: 1,
+                ruleset,
+                flags: 0,
+            })?;
+        }
+        Ok(())
+    }
+
+    fn ask_any(&mut self, choose: fn(&mut Generator) -> Request) -> Result<(), Stop> {
+        let request = choose(&mut Generator {
+            random: &mut self.random,
+            tables: &self.tables,
+            machine: self.machine,
+        });
+        self.ask(request)
+    }
+
+    /// Asks both sides and compares.
+    pub fn ask(&mut self, request: Request) -> Result<(), Stop> {
+        let before = self.tables.clone();
+        let ours = self.tables.ask(&request);
+        let (operation, linux) = self.kernel.perform(&before, &request);
+        self.lines.push(format!(
+            "{request} => {}  # Linux: {operation:?} = {}",
+            request.answer_text(ours),
+            request.answer_text(linux)
+        ));
+        if outcome(ours) == outcome(linux) {
+            self.tally.agree(&request, outcome(ours));
+            if ours >= 0 {
+                self.kernel.settle(&before, &request, ours, linux);
+            }
+            return Ok(());
+        }
+        let difference = Difference {
+            tables: &before,
+            request: &request,
+            ours: outcome(ours),
+            linux: outcome(linux),
+        };
+        let Some(class) = classify(&difference) else {
+            return Err(self.unknown("an unknown difference in the last request"));
+        };
+        self.tally
+            .differ(class, &request, outcome(linux), outcome(ours));
+        if request.may_change() && (ours >= 0 || linux >= 0) {
+            Err(Stop::Known)
+        } else {
+            Ok(())
+        }
+    }
+
+    fn unknown(&self, what: &str) -> Stop {
+        Stop::Unknown(format!("{}\n# {what}", self.lines.join("\n")))
+    }
+
+    /// Every entry is where the tables say, of the kind they say, and two paths are one file exactly if they are one object.
+    fn compare_trees(&mut self) -> Result<(), Stop> {
+        let mut found = BTreeMap::new();
+        walk(&self.kernel.path(&self.tables, 0), &mut found);
+        let entries = self.tables.live_entries();
+        let expected: BTreeMap<String, (u64, u64)> = entries
+            .iter()
+            .map(|&entry| {
+                (
+                    self.kernel.path(&self.tables, entry),
+                    (self.tables.kind(entry), self.tables.object(entry)),
+                )
+            })
+            .collect();
+        let kinds = |tree: &BTreeMap<String, (u64, u64)>| -> Vec<(String, u64)> {
+            tree.iter()
+                .map(|(path, entry)| (path.clone(), entry.0))
+                .collect()
+        };
+        if kinds(&found) != kinds(&expected) {
+            return Err(self.unknown(&format!(
+                "the trees differ: Linux {found:?}, ours {expected:?}"
+            )));
+        }
+        let pairs: BTreeSet<(u64, u64)> = found
+            .values()
+            .zip(expected.values())
+            .map(|(a, b)| (a.1, b.1))
+            .collect();
+        let files: BTreeSet<u64> = pairs.iter().map(|pair| pair.0).collect();
+        let objects: BTreeSet<u64> = pairs.iter().map(|pair| pair.1).collect();
+        if files.len() != pairs.len() || objects.len() != pairs.len() {
+            return Err(self.unknown(&format!(
+                "the hard links differ: Linux {found:?}, ours {expected:?}"
+            )));
+        }
+        self.tally.trees += 1;
+        Ok(())
+    }
+}
+
+/// The kind and inode number of a path and of all below it.
+fn walk(path: &str, found: &mut BTreeMap<String, (u64, u64)>) {
+    let metadata = fs::symlink_metadata(path).unwrap_or_else(|error| panic!("{path}: {error}"));
+    found.insert(path.to_string(), (kind_of(metadata.mode()), metadata.ino()));
+    if metadata.is_dir() {
+        for entry in fs::read_dir(path).unwrap_or_else(|error| panic!("{path}: {error}")) {
+            let name = entry.expect("an entry of the directory").file_name();
+            walk(
+                &format!("{path}/{}", name.to_str().expect("names are ASCII")),
+                found,
+            );
+        }
+    }
+}

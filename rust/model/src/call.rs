@@ -1,0 +1,120 @@
+//! Calls as values, and whatever answers them.
+
+use crate::refusal::{returned, Answer};
+use crate::state::Model;
+use crate::tables::Tables;
+
+macro_rules! calls {
+    (
+        |$model:ident|
+        $($(#[$doc:meta])* $variant:ident $name:literal { $($field:ident),* } => $answer:expr;)*
+    ) => {
+        /// A call with its arguments.
+        #[derive(Clone, PartialEq, Eq, Debug)]
+        pub enum Call {
+            /// Opens a ruleset from attribute bytes.
+            CreateRuleset { bytes: Vec<u8>, flags: u64 },
+            $($(#[$doc])* $variant { $($field: u64),* },)*
+        }
+
+        impl Call {
+            /// The names of all calls.
+            pub const NAMES: &'static [&'static str] = &["create_ruleset", $($name),*];
+
+            pub fn name(&self) -> &'static str {
+                match self {
+                    Call::CreateRuleset { .. } => "create_ruleset",
+                    $(Call::$variant { .. } => $name,)*
+                }
+            }
+
+            /// The number arguments in order.
+            pub fn numbers(&self) -> Vec<u64> {
+                match self {
+                    Call::CreateRuleset { flags, .. } => vec![*flags],
+                    $(Call::$variant { $($field),* } => vec![$(*$field),*],)*
+                }
+            }
+
+            /// The number arguments in order, to be changed.
+            pub fn numbers_mut(&mut self) -> Vec<&mut u64> {
+                match self {
+                    Call::CreateRuleset { flags, .. } => vec![flags],
+                    $(Call::$variant { $($field),* } => vec![$($field),*],)*
+                }
+            }
+        }
+
+        impl Model {
+            fn answer_number(&mut self, call: &Call) -> Answer {
+                let $model = self;
+                match *call {
+                    Call::CreateRuleset { ref bytes, flags } => $model.create_ruleset(bytes, flags),
+                    $(Call::$variant { $($field),* } => $answer,)*
+                }
+            }
+        }
+    };
+}
+
+calls! {
+    |model|
+    /// Makes fresh tables.
+    Fresh "fresh" { level } => model.make_fresh(level);
+    CloseRuleset "close_ruleset" { ruleset } => model.close_ruleset(ruleset);
+    AddPathRule "add_path_rule" { ruleset, entry, rights, flags }
+        => model.add_path_rule(ruleset, entry, rights, flags);
+    AddPortRule "add_port_rule" { ruleset, port, rights, flags }
+        => model.add_port_rule(ruleset, port, rights, flags);
+    Restrict "restrict" { thread, ruleset, flags } => model.restrict(thread, ruleset, flags);
+    /// Reads where a layer's rules stand.
+    LayerRules "layer_rules" { layer } => model.layer_rules(layer).map(|_| 0);
+    Clone "clone" { thread } => model.clone_thread(thread);
+    SetNoNewPrivs "set_no_new_privs" { thread } => model.set_no_new_privs(thread);
+    /// Sets the admin mark, or clears it where `on` is 0.
+    SetAdmin "set_admin" { thread, on } => model.set_admin(thread, on != 0);
+    Access "access" { thread, entry, rights } => model.access(thread, entry, rights);
+    Port "port" { thread, port, rights } => model.port(thread, port, rights);
+    Create "create" { thread, directory, kind } => model.create(thread, directory, kind);
+    Remove "remove" { thread, entry } => model.remove(thread, entry);
+    Link "link" { thread, source, directory } => model.link(thread, source, directory);
+    /// Renames in place of `entry`, or of nothing where `replaces` is 0.
+    Rename "rename" { thread, source, directory, replaces, entry }
+        => model.rename(thread, source, directory, (replaces != 0).then_some(entry));
+    Exchange "exchange" { thread, source, directory, entry }
+        => model.exchange(thread, source, directory, entry);
+}
+
+/// What a call returns: its number and, for a layer's rules, their cells in the pool.
+#[derive(Clone, Copy, PartialEq, Eq, Debug)]
+pub struct Reply {
+    pub number: u64,
+    /// The first cell and the number of cells.
+    pub part: [u64; 2],
+}
+
+impl Reply {
+    pub fn of(answer: Answer, part: [u64; 2]) -> Reply {
+        Reply {
+            number: returned(answer),
+            part,
+        }
+    }
+}
+
+/// Something that answers calls on tables of any length and contents.
+pub trait Broker {
+    fn answer(&mut self, tables: &mut Tables, call: &Call) -> Reply;
+}
+
+impl Model {
+    /// Answers a call; the second number pair is a layer's part of the pool.
+    pub fn answer(&mut self, call: &Call) -> (Answer, [u64; 2]) {
+        let part = match *call {
+            Call::LayerRules { layer } => self.layer_rules(layer).unwrap_or_default(),
+            _ => (0, 0),
+        };
+        let cells = [3 * part.0 as u64, 3 * part.1 as u64];
+        (self.answer_number(call), cells)
+    }
+}

@@ -1,0 +1,316 @@
+//! A broker and the model side by side, driven through random lists of calls.
+
+use crate::call::{Broker, Call, Reply};
+use crate::damage::{pokes, undo, Poke};
+use crate::generate::{call, Mix};
+use crate::random::Random;
+use crate::reference::Reference;
+use crate::refusal::Answer;
+use crate::start::start;
+use crate::state::Model;
+use crate::tables::{encode, Table, Tables};
+use crate::tally::Tally;
+use std::time::{Duration, Instant};
+
+/// One thing that happens to both sides.
+#[derive(Clone, PartialEq, Eq, Debug)]
+pub enum Step {
+    Call(Call),
+    Damage(Vec<Poke>),
+    /// Cuts a table, or fills it up with zeros.
+    Resize {
+        table: Table,
+        length: usize,
+    },
+}
+
+/// A list of steps from given sound tables.
+#[derive(Clone, PartialEq, Eq, Debug)]
+pub struct Case {
+    pub start: Model,
+    pub steps: Vec<Step>,
+}
+
+/// A cell that the two sides left with different values.
+#[derive(Clone, Copy, PartialEq, Eq, Debug)]
+pub struct CellDifference {
+    pub table: Table,
+    pub cell: usize,
+    pub broker: u64,
+    pub model: u64,
+}
+
+/// Where the two sides differ first.
+#[derive(Clone, PartialEq, Eq, Debug)]
+pub struct Difference {
+    /// The number of the step in its list.
+    pub step: usize,
+    pub broker: Reply,
+    pub model: Reply,
+    pub cells: Vec<CellDifference>,
+}
+
+/// A broker over tables of its own, and the model.
+struct Pair<'a, B> {
+    broker: &'a mut B,
+    tables: Tables,
+    reference: Reference,
+    steps: usize,
+}
+
+impl<B: Broker> Pair<'_, B> {
+    fn new<'a>(broker: &'a mut B, start: &Model) -> Pair<'a, B> {
+        Pair {
+            broker,
+            tables: encode(start),
+            reference: Reference::new(start),
+            steps: 0,
+        }
+    }
+
+    /// Takes a step on both sides; answers the model's answer to a call, and how the sides differ.
+    fn take(&mut self, step: &Step) -> (Option<Answer>, Option<Difference>) {
+        self.steps += 1;
+        match step {
+            Step::Call(call) => {
+                let (answer, difference) = self.call(call);
+                return (Some(answer), difference);
+            }
+            Step::Damage(pokes) => {
+                for poke in pokes {
+                    self.tables.poke(poke.table, poke.cell, poke.value);
+                }
+                self.reference.damage(pokes);
+            }
+            Step::Resize { table, length } => {
+                self.tables.of_mut(*table).resize(*length, 0);
+                self.reference.resize(*table, *length);
+            }
+        }
+        (None, None)
+    }
+
+    fn call(&mut self, call: &Call) -> (Answer, Option<Difference>) {
+        let broker = self.broker.answer(&mut self.tables, call);
+        let (answer, part) = self.reference.answer(call);
+        let model = Reply::of(answer, part);
+        if broker == model && self.tables == *self.reference.tables() {
+            return (answer, None);
+        }
+        let difference = Difference {
+            step: self.steps - 1,
+            broker,
+            model,
+            cells: cell_differences(&self.tables, self.reference.tables()),
+        };
+        (answer, Some(difference))
+    }
+}
+
+fn cell_differences(broker: &Tables, model: &Tables) -> Vec<CellDifference> {
+    let tables = Table::ALL.into_iter().flat_map(|table| {
+        let cells = broker.of(table).iter().zip(model.of(table)).enumerate();
+        cells.map(move |(cell, (broker, model))| CellDifference {
+            table,
+            cell,
+            broker: *broker,
+            model: *model,
+        })
+    });
+    tables.filter(|cell| cell.broker != cell.model).collect()
+}
+
+/// Where a broker first differs from the model in a case.
+pub fn first_difference<B: Broker>(broker: &mut B, case: &Case) -> Option<Difference> {
+    let mut pair = Pair::new(broker, &case.start);
+    case.steps.iter().find_map(|step| pair.take(step).1)
+}
+
+/// How long a comparison goes on.
+pub struct Options {
+    pub seed: u64,
+    pub calls: u64,
+    pub seconds: Option<u64>,
+}
+
+/// Drives both sides through random cases; answers what was met, and a case in which they differ.
+pub fn compare<B: Broker>(broker: &mut B, options: &Options) -> (Tally, Option<Case>) {
+    let deadline = options
+        .seconds
+        .map(|seconds| Instant::now() + Duration::from_secs(seconds));
+    let mut run = Run {
+        random: Random::new(options.seed),
+        tally: Tally::default(),
+        calls: options.calls,
+        deadline,
+    };
+    while !run.is_over() {
+        let start = start(&mut run.random);
+        let mix = run.random.pick(&[Mix::Every, Mix::Tree]);
+        let mut session = Session::new(broker, start, mix);
+        if session.play(&mut run).is_some() {
+            return (run.tally, Some(session.case));
+        }
+    }
+    (run.tally, None)
+}
+
+/// The state of a comparison.
+struct Run {
+    random: Random,
+    tally: Tally,
+    calls: u64,
+    deadline: Option<Instant>,
+}
+
+impl Run {
+    fn is_over(&self) -> bool {
+        self.tally.calls >= self.calls || self.deadline.is_some_and(|end| Instant::now() >= end)
+    }
+}
+
+/// One random case, as far as it has come.
+struct Session<'a, B> {
+    mix: Mix,
+    pair: Pair<'a, B>,
+    case: Case,
+}
+
+impl<B: Broker> Session<'_, B> {
+    fn new(broker: &mut B, start: Model, mix: Mix) -> Session<'_, B> {
+        Session {
+            mix,
+            pair: Pair::new(broker, &start),
+            case: Case {
+                start,
+                steps: Vec::new(),
+            },
+        }
+    }
+
+    /// Plays calls and damage until enough or until the sides differ.
+    fn play(&mut self, run: &mut Run) -> Option<Difference> {
+        self.assert_consistent();
+        let length = run.random.between(10, 120);
+        let damage = run.random.pick(&[0, 0, 30]);
+        for number in 0..length {
+            if run.is_over() {
+                return None;
+            }
+            let difference = if run.random.chance(damage) {
+                self.damage(run)
+            } else {
+                self.random_call(run)
+            };
+            if difference.is_some() {
+                return difference;
+            }
+            if number % 16 == 0 {
+                self.assert_consistent();
+            }
+        }
+        if run.random.chance(25) {
+            return self.wrong_length(run);
+        }
+        None
+    }
+
+    /// The kept state and the cells must show the same.
+    fn assert_consistent(&self) {
+        let consistent = self.pair.reference.consistent();
+        assert!(
+            consistent,
+            "the model and its cells differ: {:?}",
+            self.case
+        );
+    }
+
+    fn take(&mut self, run: &mut Run, step: Step) -> Option<Difference> {
+        let same_object = self.on_one_object(&step);
+        let (answer, difference) = self.pair.take(&step);
+        if let (Step::Call(call), Some(answer)) = (&step, answer) {
+            run.tally.count(call, answer);
+            if same_object && answer.is_ok() {
+                run.tally.count_same_object(call);
+            }
+        }
+        self.case.steps.push(step);
+        difference
+    }
+
+    /// Whether a step renames or exchanges an entry with one of the same object.
+    fn on_one_object(&self, step: &Step) -> bool {
+        let Ok(model) = self.pair.reference.model() else {
+            return false;
+        };
+        let (source, entry) = match *step {
+            Step::Call(Call::Rename {
+                source,
+                replaces,
+                entry,
+                ..
+            }) if replaces != 0 => (source, entry),
+            Step::Call(Call::Exchange { source, entry, .. }) => (source, entry),
+            _ => return false,
+        };
+        let object = |entry| model.entry(entry).ok().map(|entry| entry.object);
+        object(source) == object(entry)
+    }
+
+    fn random_call(&mut self, run: &mut Run) -> Option<Difference> {
+        let call = match self.pair.reference.model() {
+            Ok(model) => call(model, self.mix, &mut run.random),
+            Err(_) => call(&self.case.start, Mix::Every, &mut run.random),
+        };
+        self.take(run, Step::Call(call))
+    }
+
+    /// Damages cells; if the tables aren't sound then, a few calls follow and the cells are mended.
+    fn damage(&mut self, run: &mut Run) -> Option<Difference> {
+        let model = self.pair.reference.model().ok()?;
+        let tables = self.pair.reference.tables();
+        let damage = pokes(model, tables, &mut run.random);
+        let mended = undo(tables, &damage);
+        self.take(run, Step::Damage(damage));
+        let broken = self.pair.reference.model().err();
+        run.tally.count_damage(broken);
+        broken?;
+        for _ in 0..run.random.between(1, 3) {
+            if let Some(difference) = self.random_call(run) {
+                return Some(difference);
+            }
+        }
+        if self.pair.reference.model().is_err() {
+            self.take(run, Step::Damage(mended));
+        }
+        None
+    }
+
+    /// Gives a table a wrong length and makes a few calls.
+    fn wrong_length(&mut self, run: &mut Run) -> Option<Difference> {
+        let table = run.random.pick(&Table::ALL);
+        let right = table.length() as u64;
+        let length = match run.random.below(5) {
+            0 => 0,
+            1 => right - 1,
+            2 => right + 1,
+            3 => run.random.below(right),
+            _ => right + run.random.below(200),
+        };
+        let length = length as usize;
+        self.take(run, Step::Resize { table, length });
+        run.tally.count_damage(self.pair.reference.model().err());
+        for _ in 0..2 {
+            let step = if run.random.chance(20) {
+                let level = run.random.below(8);
+                Step::Call(Call::Fresh { level })
+            } else {
+                Step::Call(call(&self.case.start, Mix::Every, &mut run.random))
+            };
+            if let Some(difference) = self.take(run, step) {
+                return Some(difference);
+            }
+        }
+        None
+    }
+}

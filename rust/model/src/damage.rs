@@ -1,0 +1,188 @@
+//! Random damage to the cells of sound tables.
+
+use crate::random::Random;
+use crate::state::Model;
+use crate::tables::{Table, Tables};
+
+/// A change of one cell.
+#[derive(Clone, Copy, PartialEq, Eq, Debug)]
+pub struct Poke {
+    pub table: Table,
+    pub cell: usize,
+    pub value: u64,
+}
+
+/// Changes of a few cells, mostly of cells in use.
+pub fn pokes(model: &Model, tables: &Tables, random: &mut Random) -> Vec<Poke> {
+    let mut pokes = match random.below(12) {
+        0 => swap_rows(tables, random),
+        1 => copy_row(model, tables, random),
+        2 | 3 => vec![copy_key(model, tables, random)],
+        4 => vec![any_cell(tables, random)],
+        5 | 6 => vec![renamed_cell(model, tables, random)],
+        _ => vec![cell_in_use(model, tables, random)],
+    };
+    while random.chance(15) {
+        pokes.push(cell_in_use(model, tables, random));
+    }
+    pokes
+}
+
+/// The pokes that write the cells back as they are.
+pub fn undo(tables: &Tables, pokes: &[Poke]) -> Vec<Poke> {
+    let there = |poke: &Poke| Poke {
+        value: tables.of(poke.table)[poke.cell],
+        ..*poke
+    };
+    pokes.iter().map(there).collect()
+}
+
+/// A row of a table, one in use where there is one.
+fn row_in_use(table: Table, model: &Model, random: &mut Random) -> usize {
+    let numbers: Vec<u64> = match table {
+        Table::System => vec![0],
+        Table::Entries => model.entries.keys().copied().collect(),
+        Table::Rulesets => model.rulesets.keys().copied().collect(),
+        Table::Layers => (0..model.layers.len() as u64).collect(),
+        Table::Pool => (0..model.pool_used as u64).collect(),
+        Table::Threads => model.threads.keys().copied().collect(),
+    };
+    let row = random.pick_some(&numbers).unwrap_or(0);
+    row as usize
+}
+
+/// A cell of a row in use, or of the row after it.
+fn cell_in_use(model: &Model, tables: &Tables, random: &mut Random) -> Poke {
+    let table = random.pick(&Table::ALL);
+    let mut row = row_in_use(table, model, random);
+    if random.chance(10) {
+        row = (row + 1) % table.rows();
+    }
+    let width = match table {
+        Table::Rulesets => 4 + 3 * (1 + tables.row(table, row)[3].min(63) as usize),
+        _ => table.width(),
+    };
+    let column = if random.chance(50) {
+        random.below(width.min(4) as u64)
+    } else {
+        random.below(width as u64)
+    };
+    let cell = table.width() * row + column as usize;
+    let value = changed(model, tables, table, cell, random);
+    Poke { table, cell, value }
+}
+
+/// Another value for a cell.
+fn changed(model: &Model, tables: &Tables, table: Table, cell: usize, random: &mut Random) -> u64 {
+    let there = tables.of(table)[cell];
+    match random.below(8) {
+        0 => there.wrapping_add(1),
+        1 => there.wrapping_sub(1),
+        2 => there ^ (1 << random.below(17)),
+        3 => there.wrapping_add(random.below(20)),
+        4 => random.edge(),
+        5 => random.number(),
+        6 => 0,
+        _ => {
+            let row = row_in_use(table, model, random);
+            tables.row(table, row)[cell % table.width()]
+        }
+    }
+}
+
+/// A cell that names something, so that it names another thing of the same sort: a parent that is
+/// below, a layer that is too deep, a port out of range, rights that a file doesn't have.
+fn renamed_cell(model: &Model, tables: &Tables, random: &mut Random) -> Poke {
+    let (table, row, column, value) = match random.below(4) {
+        0 => {
+            let entries = model.entries.iter();
+            let directories = entries.filter(|(_, entry)| entry.kind.is_directory());
+            let numbers: Vec<u64> = directories.map(|(number, _)| *number).collect();
+            let row = random.pick(&numbers) as usize;
+            (Table::Entries, row, 1, random.pick(&numbers))
+        }
+        1 => {
+            let row = row_in_use(Table::Threads, model, random);
+            let deep = random.below(4).min(model.layers.len() as u64);
+            (Table::Threads, row, 1, model.layers.len() as u64 - deep)
+        }
+        2 => {
+            let row = rule_in_use(2, model, tables, random);
+            (Table::Pool, row, 1, random.between(65_535, 65_536))
+        }
+        _ => {
+            let row = rule_in_use(1, model, tables, random);
+            let rights = tables.row(Table::Pool, row)[2] | 1 << random.below(16);
+            (Table::Pool, row, 2, rights)
+        }
+    };
+    let cell = table.width() * row + column;
+    Poke { table, cell, value }
+}
+
+/// A pool place with a rule of a type, if there is one.
+fn rule_in_use(sort: u64, model: &Model, tables: &Tables, random: &mut Random) -> usize {
+    let places = 0..model.pool_used;
+    let fit = places.filter(|place| tables.row(Table::Pool, *place)[0] == sort);
+    let fit: Vec<usize> = fit.collect();
+    random.pick_some(&fit).unwrap_or(0)
+}
+
+fn any_cell(tables: &Tables, random: &mut Random) -> Poke {
+    let table = random.pick(&Table::ALL);
+    let cell = random.below(tables.of(table).len() as u64) as usize;
+    let value = random.pick(&[1, 2, 3, random_high(cell)]);
+    Poke { table, cell, value }
+}
+
+/// A value with a high bit set.
+fn random_high(cell: usize) -> u64 {
+    1 << (32 + cell % 32)
+}
+
+/// Writes a table's row over another one.
+fn written_over(tables: &Tables, table: Table, from: usize, to: usize) -> Vec<Poke> {
+    let row = tables.row(table, from).iter().enumerate();
+    let pokes = row.map(|(column, value)| Poke {
+        table,
+        cell: table.width() * to + column,
+        value: *value,
+    });
+    pokes.collect()
+}
+
+fn swap_rows(tables: &Tables, random: &mut Random) -> Vec<Poke> {
+    let table = random.pick(&Table::ALL);
+    let (one, two) = (
+        random.below(table.rows() as u64) as usize,
+        random.below(table.rows() as u64) as usize,
+    );
+    let mut pokes = written_over(tables, table, one, two);
+    pokes.extend(written_over(tables, table, two, one));
+    pokes
+}
+
+fn copy_row(model: &Model, tables: &Tables, random: &mut Random) -> Vec<Poke> {
+    let table = random.pick(&Table::ALL);
+    let from = row_in_use(table, model, random);
+    let to = row_in_use(table, model, random);
+    written_over(tables, table, from, to)
+}
+
+/// Copies a cell of a rule, a run or an entry from its neighbour: a key twice, runs that overlap,
+/// an object of two entries.
+fn copy_key(model: &Model, tables: &Tables, random: &mut Random) -> Poke {
+    let table = random.pick(&[Table::Entries, Table::Rulesets, Table::Layers, Table::Pool]);
+    let row = row_in_use(table, model, random);
+    let (cell, from) = match table {
+        Table::Entries => (3 * row + 2, 3 * row_in_use(table, model, random) + 2),
+        Table::Layers => (6 * row + 4, 6 * row_in_use(table, model, random) + 4),
+        Table::Pool => (3 * row + 1, 3 * row.saturating_sub(1) + 1),
+        _ => {
+            let first = 196 * row + 4 + 3 * random.below(63) as usize + 1;
+            (first, first + 3)
+        }
+    };
+    let value = tables.of(table)[from];
+    Poke { table, cell, value }
+}

@@ -1,0 +1,435 @@
+//! Random calls, with arguments that mostly name live things.
+
+use crate::call::Call;
+use crate::random::Random;
+use crate::rights::{Masks, Rights};
+use crate::rulesets::known_size;
+use crate::start::{masks, some_of};
+use crate::state::{Key, Model, ROOT};
+
+/// Which calls are made most.
+#[derive(Clone, Copy)]
+pub enum Mix {
+    Every,
+    /// Those that look at the tree or change it.
+    Tree,
+}
+
+/// A random call for tables that show a model.
+pub fn call(model: &Model, mix: Mix, random: &mut Random) -> Call {
+    let mut choose = Choose { model, random };
+    let sort = match mix {
+        Mix::Tree if choose.random.chance(90) => choose.random.between(550, 999),
+        _ => choose.random.below(1000),
+    };
+    match sort {
+        0..=3 => choose.fresh(),
+        4..=79 => choose.create_ruleset(),
+        80..=109 => choose.close_ruleset(),
+        110..=219 => choose.add_path_rule(),
+        220..=289 => choose.add_port_rule(),
+        290..=369 => choose.restrict(),
+        370..=399 => choose.layer_rules(),
+        400..=424 => choose.clone_thread(),
+        425..=439 => choose.set_no_new_privs(),
+        440..=464 => choose.set_admin(),
+        465..=564 => choose.access(),
+        565..=614 => choose.port(),
+        615..=694 => choose.create(),
+        695..=744 => choose.remove(),
+        745..=804 => choose.link(),
+        805..=904 => choose.rename(),
+        _ => choose.exchange(),
+    }
+}
+
+/// The choice of arguments.
+struct Choose<'a> {
+    model: &'a Model,
+    random: &'a mut Random,
+}
+
+impl Choose<'_> {
+    fn fresh(&mut self) -> Call {
+        let level = if self.random.chance(70) {
+            self.random.below(9)
+        } else {
+            self.random.edge()
+        };
+        Call::Fresh { level }
+    }
+
+    fn create_ruleset(&mut self) -> Call {
+        let bytes = self.attribute();
+        let flags = self.flags();
+        Call::CreateRuleset { bytes, flags }
+    }
+
+    /// Attribute bytes: mostly masks of the level at its known size, else of odd size or with junk.
+    fn attribute(&mut self) -> Vec<u8> {
+        let masks = masks(self.model.level.max(1), self.random);
+        let fields = match self.random.below(10) {
+            0 => [self.random.edge(), self.random.edge(), self.random.edge()],
+            1 => [masks.fs.0, masks.net.0, 1 << self.random.below(64)],
+            2 => [masks.fs.0, 1 << self.random.below(64), 0],
+            3 => [1 << self.random.below(64), 0, 0],
+            4 => [0; 3],
+            _ => [masks.fs.0, masks.net.0, masks.scope.0],
+        };
+        let mut bytes: Vec<u8> = fields.into_iter().flat_map(u64::to_le_bytes).collect();
+        let length = match self.random.below(20) {
+            0..=4 => self.random.below(41),
+            5 => self.random.between(4094, 4098),
+            6 => self.random.below(9),
+            _ => known_size(self.model.level) as u64,
+        };
+        bytes.resize(length as usize, 0);
+        if self.random.chance(8) && !bytes.is_empty() {
+            let at = self.random.below(length) as usize;
+            bytes[at] = self.random.number() as u8;
+        }
+        bytes
+    }
+
+    fn close_ruleset(&mut self) -> Call {
+        let ruleset = self.ruleset();
+        Call::CloseRuleset { ruleset }
+    }
+
+    fn add_path_rule(&mut self) -> Call {
+        let ruleset = self.ruleset();
+        let entry = if self.random.chance(15) {
+            ROOT
+        } else {
+            self.entry()
+        };
+        let handled = self.handled(ruleset, |masks| masks.fs);
+        let kind = self.model.entries.get(&entry).map(|entry| entry.kind);
+        let sensible = handled.common(kind.map_or(Rights::ALL, |kind| kind.rights()));
+        let rights = self.rights(sensible, handled);
+        let flags = self.flags();
+        Call::AddPathRule {
+            ruleset,
+            entry,
+            rights,
+            flags,
+        }
+    }
+
+    fn add_port_rule(&mut self) -> Call {
+        let model = self.model;
+        let open = model.rulesets.iter();
+        let handling = open.filter(|(_, ruleset)| !ruleset.masks.net.is_empty());
+        let numbers: Vec<u64> = handling.map(|(number, _)| *number).collect();
+        let ruleset = match self.random.pick_some(&numbers) {
+            Some(number) if self.random.chance(70) => number,
+            _ => self.ruleset(),
+        };
+        let handled = self.handled(ruleset, |masks| masks.net);
+        let rights = self.rights(handled, Rights::NETWORK);
+        let port = self.port_number();
+        let flags = self.flags();
+        Call::AddPortRule {
+            ruleset,
+            port,
+            rights,
+            flags,
+        }
+    }
+
+    /// What an open ruleset handles; something for one that isn't open.
+    fn handled(&self, ruleset: u64, part: fn(&Masks) -> Rights) -> Rights {
+        let ruleset = self.model.rulesets.get(&ruleset);
+        ruleset.map_or(Rights::ALL, |ruleset| part(&ruleset.masks))
+    }
+
+    /// Mostly some of the sensible rights, else of the wider ones, else anything.
+    fn rights(&mut self, sensible: Rights, wider: Rights) -> u64 {
+        match self.random.below(12) {
+            0 => self.random.edge(),
+            1 => 1 << self.random.below(64),
+            2 => some_of(wider, self.random).0,
+            _ => some_of(sensible, self.random).0,
+        }
+    }
+
+    fn restrict(&mut self) -> Call {
+        let thread = self.thread();
+        let ruleset = self.ruleset();
+        let flags = self.flags();
+        Call::Restrict {
+            thread,
+            ruleset,
+            flags,
+        }
+    }
+
+    fn layer_rules(&mut self) -> Call {
+        let layer = if self.random.chance(75) {
+            self.random.below(self.model.layers.len() as u64 + 1)
+        } else {
+            self.random.edge()
+        };
+        Call::LayerRules { layer }
+    }
+
+    fn clone_thread(&mut self) -> Call {
+        let thread = self.thread();
+        Call::Clone { thread }
+    }
+
+    fn set_no_new_privs(&mut self) -> Call {
+        let thread = self.thread();
+        Call::SetNoNewPrivs { thread }
+    }
+
+    fn set_admin(&mut self) -> Call {
+        let thread = self.thread();
+        let on = self.random.pick(&[0, 0, 1, 2, u64::MAX]);
+        Call::SetAdmin { thread, on }
+    }
+
+    fn access(&mut self) -> Call {
+        let thread = self.thread();
+        let entry = self.entry();
+        let kind = self.model.entries.get(&entry).map(|entry| entry.kind);
+        let sensible = kind.map_or(Rights::ALL, |kind| kind.rights());
+        let bits: Vec<u64> = (0..16).filter(|bit| sensible.0 >> bit & 1 == 1).collect();
+        let one = Rights(1 << self.random.pick(&bits));
+        let rights = self.rights(one, sensible);
+        Call::Access {
+            thread,
+            entry,
+            rights,
+        }
+    }
+
+    fn port(&mut self) -> Call {
+        let thread = self.thread();
+        let port = self.port_number();
+        let rights = if self.random.chance(80) {
+            self.random.between(1, 3)
+        } else {
+            self.random.edge()
+        };
+        Call::Port {
+            thread,
+            port,
+            rights,
+        }
+    }
+
+    fn create(&mut self) -> Call {
+        let thread = self.thread();
+        let directory = if self.random.chance(85) {
+            self.directory()
+        } else {
+            self.entry()
+        };
+        let kind = match self.random.below(10) {
+            0 => self.random.edge(),
+            1..=3 => 2,
+            _ => self.random.between(1, 7),
+        };
+        Call::Create {
+            thread,
+            directory,
+            kind,
+        }
+    }
+
+    fn remove(&mut self) -> Call {
+        let thread = self.thread();
+        let entry = self.entry();
+        Call::Remove { thread, entry }
+    }
+
+    fn link(&mut self) -> Call {
+        let thread = self.thread();
+        let source = if self.random.chance(90) {
+            self.entry_where(|model, entry| !model.entries[&entry].kind.is_directory())
+        } else {
+            self.entry()
+        };
+        let directory = self.target();
+        Call::Link {
+            thread,
+            source,
+            directory,
+        }
+    }
+
+    fn rename(&mut self) -> Call {
+        let thread = self.thread();
+        let (source, directory, entry) = self.moved();
+        let replaces = self.random.pick(&[0, 0, 1, 1, 1, 2, u64::MAX]);
+        Call::Rename {
+            thread,
+            source,
+            directory,
+            replaces,
+            entry,
+        }
+    }
+
+    fn exchange(&mut self) -> Call {
+        let thread = self.thread();
+        let (source, directory, entry) = self.moved();
+        Call::Exchange {
+            thread,
+            source,
+            directory,
+            entry,
+        }
+    }
+
+    fn flags(&mut self) -> u64 {
+        if self.random.chance(95) {
+            0
+        } else {
+            self.random.edge()
+        }
+    }
+
+    fn thread(&mut self) -> u64 {
+        let live: Vec<u64> = self.model.threads.keys().copied().collect();
+        self.live_or_any(&live, 8)
+    }
+
+    fn ruleset(&mut self) -> u64 {
+        let open: Vec<u64> = self.model.rulesets.keys().copied().collect();
+        self.live_or_any(&open, 16)
+    }
+
+    fn entry(&mut self) -> u64 {
+        let live: Vec<u64> = self.model.entries.keys().copied().collect();
+        self.live_or_any(&live, 1024)
+    }
+
+    /// Mostly an entry other than the root.
+    fn below_root(&mut self) -> u64 {
+        if self.random.chance(10) {
+            return self.entry();
+        }
+        self.entry_where(|_, entry| entry != ROOT)
+    }
+
+    /// Mostly one of the live numbers, else any below the limit or at some edge.
+    fn live_or_any(&mut self, live: &[u64], limit: u64) -> u64 {
+        match self.random.below(20) {
+            0 => self.random.edge(),
+            1 => self.random.below(limit),
+            _ => self.random.pick_some(live).unwrap_or(0),
+        }
+    }
+
+    /// An entry with a property, or any if none has it.
+    fn entry_where(&mut self, holds: fn(&Model, u64) -> bool) -> u64 {
+        let live = self.model.entries.keys().copied();
+        let fit: Vec<u64> = live.filter(|entry| holds(self.model, *entry)).collect();
+        match self.random.pick_some(&fit) {
+            Some(entry) => entry,
+            None => self.entry(),
+        }
+    }
+
+    fn directory(&mut self) -> u64 {
+        self.entry_where(|model, entry| model.entries[&entry].kind.is_directory())
+    }
+
+    /// A directory, or sometimes another entry.
+    fn target(&mut self) -> u64 {
+        if self.random.chance(90) {
+            self.directory()
+        } else {
+            self.entry()
+        }
+    }
+
+    fn parent(&self, entry: u64) -> u64 {
+        let entry = self.model.entries.get(&entry);
+        entry.map_or(ROOT, |entry| entry.parent)
+    }
+
+    /// The entry or something above it, if it is live.
+    fn at_or_above(&mut self, entry: u64) -> u64 {
+        if !self.model.entries.contains_key(&entry) {
+            return entry;
+        }
+        let mut way = self.model.way_up(entry);
+        way.truncate(4);
+        if way.len() > 1 && self.random.chance(80) {
+            way.retain(|above| *above != ROOT);
+        }
+        self.random.pick(&way)
+    }
+
+    /// A child of a directory, or any entry.
+    fn child(&mut self, directory: u64) -> u64 {
+        let entries = self.model.entries.iter();
+        let children: Vec<u64> = entries
+            .filter(|(number, entry)| **number != ROOT && entry.parent == directory)
+            .map(|(number, _)| *number)
+            .collect();
+        match self.random.pick_some(&children) {
+            Some(child) => child,
+            None => self.entry(),
+        }
+    }
+
+    /// Another entry of the same object, or the entry itself.
+    fn linked(&mut self, entry: u64) -> u64 {
+        let Some(object) = self.model.entries.get(&entry).map(|entry| entry.object) else {
+            return entry;
+        };
+        let entries = self.model.entries.iter();
+        let links: Vec<u64> = entries
+            .filter(|(_, entry)| entry.object == object)
+            .map(|(number, _)| *number)
+            .collect();
+        self.random.pick(&links)
+    }
+
+    /// The source, directory and other entry of a rename or exchange, in the shapes that the checks
+    /// tell apart.
+    fn moved(&mut self) -> (u64, u64, u64) {
+        let any = self.below_root();
+        let directory = self.target();
+        match self.random.below(12) {
+            0 => (any, directory, self.child(directory)),
+            1 => (any, self.parent(any), self.child(self.parent(any))),
+            2 => {
+                let source = self.at_or_above(directory);
+                (source, directory, self.child(directory))
+            }
+            3 => (any, directory, self.entry()),
+            shape => {
+                let (source, other) = match shape {
+                    4 => (any, self.at_or_above(self.parent(any))),
+                    5 => (any, self.linked(any)),
+                    6 | 7 => (self.directory(), self.directory()),
+                    _ => (any, self.below_root()),
+                };
+                (source, self.parent(other), other)
+            }
+        }
+    }
+
+    /// A port of a rule of some layer or ruleset, a small one, or one at an edge.
+    fn port_number(&mut self) -> u64 {
+        let layers = self.model.layers.iter().map(|layer| &layer.rules);
+        let rulesets = self.model.rulesets.values().map(|ruleset| &ruleset.rules);
+        let keys = layers.chain(rulesets).flat_map(|rules| rules.iter());
+        let ports: Vec<u64> = keys
+            .filter_map(|(key, _)| match key {
+                Key::Port(port) => Some(port),
+                Key::Object(_) => None,
+            })
+            .collect();
+        match self.random.below(4) {
+            0 => self.random.edge(),
+            1 => self.random.below(20),
+            _ => self.random.pick_some(&ports).unwrap_or(80),
+        }
+    }
+}

@@ -1,0 +1,27 @@
+//! An independent program that answers as document 01 says, written from the paper alone, and the
+//! means to compare it with another broker over the same tables.
+//!
+//! The model is [`state`] with the calls in [`rulesets`], [`threads`], [`judge`] and [`tree`];
+//! [`tables`] and [`sound`] convert between it and cells. The comparison is [`compare`], fed by
+//! [`start`], [`generate`] and [`damage`]; a difference is made short by [`shrink`] and printed by
+//! [`scenario`].
+
+pub mod call;
+pub mod compare;
+pub mod damage;
+pub mod generate;
+pub mod judge;
+pub mod random;
+pub mod reference;
+pub mod refusal;
+pub mod rights;
+pub mod rulesets;
+pub mod scenario;
+pub mod shrink;
+pub mod sound;
+pub mod start;
+pub mod state;
+pub mod tables;
+pub mod tally;
+pub mod threads;
+pub mod tree;

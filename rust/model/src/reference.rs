@@ -1,0 +1,101 @@
+//! The model as a broker over tables: it keeps its state from call to call.
+
+use crate::call::{Broker, Call, Reply};
+use crate::compare::Step;
+use crate::damage::Poke;
+use crate::refusal::{Answer, Refusal};
+use crate::sound::{check, decode, Unsound};
+use crate::state::Model;
+use crate::tables::{encode, encode_into, Table, Tables};
+
+/// The model beside the tables that show it.
+pub struct Reference {
+    tables: Tables,
+    model: Result<Model, Unsound>,
+}
+
+impl Reference {
+    pub fn new(model: &Model) -> Reference {
+        Reference {
+            tables: encode(model),
+            model: Ok(model.clone()),
+        }
+    }
+
+    pub fn tables(&self) -> &Tables {
+        &self.tables
+    }
+
+    /// The model, or the clause of soundness that the tables break.
+    pub fn model(&self) -> Result<&Model, Unsound> {
+        self.model.as_ref().map_err(|unsound| *unsound)
+    }
+
+    /// Takes a step; the answer if it is a call.
+    pub fn take(&mut self, step: &Step) -> Option<Answer> {
+        match step {
+            Step::Call(call) => return Some(self.answer(call).0),
+            Step::Damage(pokes) => self.damage(pokes),
+            Step::Resize { table, length } => self.resize(*table, *length),
+        }
+        None
+    }
+
+    pub fn damage(&mut self, pokes: &[Poke]) {
+        for poke in pokes {
+            self.tables.poke(poke.table, poke.cell, poke.value);
+        }
+        self.model = check(&self.tables);
+    }
+
+    pub fn resize(&mut self, table: Table, length: usize) {
+        self.tables.of_mut(table).resize(length, 0);
+        self.model = check(&self.tables);
+    }
+
+    /// Answers a call and writes every cell anew.
+    pub fn answer(&mut self, call: &Call) -> (Answer, [u64; 2]) {
+        let answered = match &mut self.model {
+            Ok(model) => model.answer(call),
+            Err(_) => (self.answer_unsound(call), [0, 0]),
+        };
+        if let Ok(model) = &self.model {
+            encode_into(model, &mut self.tables);
+        }
+        answered
+    }
+
+    /// On unsound tables only fresh ones can be made, where the lengths are right.
+    fn answer_unsound(&mut self, call: &Call) -> Answer {
+        let Call::Fresh { level } = *call else {
+            return Err(Refusal::NotSound);
+        };
+        if !self.tables.right_lengths() {
+            return Err(Refusal::WrongLength);
+        }
+        let mut model = Model::fresh(0);
+        model.make_fresh(level)?;
+        self.model = Ok(model);
+        Ok(0)
+    }
+
+    /// Whether the tables, read again, show the state that was kept.
+    pub fn consistent(&self) -> bool {
+        decode(&self.tables).as_ref() == self.model.as_ref().ok()
+    }
+}
+
+/// The model as a broker that reads the tables at each call.
+pub struct Rereading;
+
+impl Broker for Rereading {
+    fn answer(&mut self, tables: &mut Tables, call: &Call) -> Reply {
+        let mut reference = Reference {
+            model: check(tables),
+            tables: std::mem::take(tables),
+        };
+        let (answer, part) = reference.answer(call);
+        *tables = reference.tables;
+        Reply::of(answer, part)
+    }
+}

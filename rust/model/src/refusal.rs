@@ -1,0 +1,133 @@
+//! Why a call is refused, and the error number that says so.
+
+/// The error numbers of the public Linux headers that the broker answers.
+#[derive(Clone, Copy, PartialEq, Eq, PartialOrd, Ord, Debug)]
+pub enum Errno {
+    EPERM = 1,
+    ENOENT = 2,
+    ESRCH = 3,
+    EIO = 5,
+    E2BIG = 7,
+    EBADF = 9,
+    EAGAIN = 11,
+    ENOMEM = 12,
+    EACCES = 13,
+    EBUSY = 16,
+    EXDEV = 18,
+    ENOTDIR = 20,
+    EISDIR = 21,
+    EINVAL = 22,
+    EMFILE = 24,
+    ENOSPC = 28,
+    ENOTEMPTY = 39,
+    ENOMSG = 42,
+    EOPNOTSUPP = 95,
+}
+
+impl Errno {
+    pub const ALL: [Errno; 19] = [
+        Errno::EPERM,
+        Errno::ENOENT,
+        Errno::ESRCH,
+        Errno::EIO,
+        Errno::E2BIG,
+        Errno::EBADF,
+        Errno::EAGAIN,
+        Errno::ENOMEM,
+        Errno::EACCES,
+        Errno::EBUSY,
+        Errno::EXDEV,
+        Errno::ENOTDIR,
+        Errno::EISDIR,
+        Errno::EINVAL,
+        Errno::EMFILE,
+        Errno::ENOSPC,
+        Errno::ENOTEMPTY,
+        Errno::ENOMSG,
+        Errno::EOPNOTSUPP,
+    ];
+
+    /// How a call returns the error: 2^64 minus its number.
+    pub fn returned(self) -> u64 {
+        (self as u64).wrapping_neg()
+    }
+}
+
+macro_rules! refusals {
+    ($($(#[$doc:meta])* $name:ident $errno:ident;)*) => {
+        /// One condition under which a call is refused.
+        #[derive(Clone, Copy, PartialEq, Eq, PartialOrd, Ord, Debug)]
+        pub enum Refusal {
+            $($(#[$doc])* $name,)*
+        }
+
+        impl Refusal {
+            pub fn errno(self) -> Errno {
+                match self {
+                    $(Refusal::$name => Errno::$errno,)*
+                }
+            }
+        }
+    };
+}
+
+refusals! {
+    NotSound EIO;
+    WrongLength EIO;
+    UnknownLevel EINVAL;
+    /// Level 0: Landlock is disabled.
+    Disabled EOPNOTSUPP;
+    FlagsNotZero EINVAL;
+    AttributeTooShort EINVAL;
+    AttributeTooLong E2BIG;
+    BytePastKnownSize E2BIG;
+    /// A bit that the level doesn't know, or, in a request, above the last right.
+    UnknownBit EINVAL;
+    NothingHandled ENOMSG;
+    NoFreeRuleset EMFILE;
+    RulesetNotOpen EBADF;
+    NoRights ENOMSG;
+    RightsNotHandled EINVAL;
+    RuleEntryNotLive EBADF;
+    /// Rights outside the file set, for something other than a directory.
+    RightsNotForFile EINVAL;
+    PortOutOfRange EINVAL;
+    RulesetFull E2BIG;
+    ThreadNotLive ESRCH;
+    /// Neither no_new_privs nor admin is set.
+    NoMark EPERM;
+    DomainFull E2BIG;
+    NoFreeLayer ENOMEM;
+    PoolFull ENOMEM;
+    LayerNotInUse EBADF;
+    NoFreeThread EAGAIN;
+    EntryNotLive ENOENT;
+    EmptyMask EINVAL;
+    AccessDenied EACCES;
+    RootNamed EBUSY;
+    TargetNotDirectory ENOTDIR;
+    UnknownKind EINVAL;
+    NotChildOfTarget EINVAL;
+    /// The source is the target directory or above it.
+    SourceAboveTarget EINVAL;
+    /// The exchanged entry is the source's parent or above it.
+    OtherAboveSource EINVAL;
+    LinkOfDirectory EPERM;
+    ReferDenied EXDEV;
+    NotContained EXDEV;
+    /// The containment of an exchange's other entry, moved the other way.
+    OtherNotContained EXDEV;
+    DirectoryOverFile ENOTDIR;
+    FileOverDirectory EISDIR;
+    DirectoryNotEmpty ENOTEMPTY;
+    NoFreeEntry ENOSPC;
+    NoObjectNumber ENOSPC;
+}
+
+/// The number a call succeeds with, or why it is refused.
+pub type Answer = Result<u64, Refusal>;
+
+/// An answer as the one number a call returns.
+pub fn returned(answer: Answer) -> u64 {
+    answer.unwrap_or_else(|refusal| refusal.errno().returned())
+}

@@ -1,0 +1,141 @@
+//! A case as a scenario file, with what the two sides answered.
+
+use crate::call::{Call, Reply};
+use crate::compare::{Case, Difference, Step};
+use crate::damage::Poke;
+use crate::reference::Reference;
+use crate::refusal::{Answer, Errno};
+use crate::state::Model;
+use crate::tables::{encode, Table};
+use std::fmt::Write;
+
+/// The different cells that are printed at most.
+const CELLS: usize = 20;
+
+/// The scenario of a case; each call is marked with the model's answer.
+pub fn scenario(case: &Case, difference: &Difference) -> String {
+    let mut lines = vec![format!("fresh {}", case.start.level)];
+    lines.extend(start_pokes(&case.start).iter().map(poke_line));
+    let mut reference = Reference::new(&case.start);
+    for step in &case.steps {
+        lines.extend(step_lines(step, reference.take(step)));
+    }
+    lines.extend(difference_lines(difference));
+    lines.join("\n") + "\n"
+}
+
+/// The lines of a step, with the answer if it is a call.
+fn step_lines(step: &Step, answer: Option<Answer>) -> Vec<String> {
+    match step {
+        Step::Call(call) => answer
+            .map(|answer| call_line(call, answer))
+            .into_iter()
+            .collect(),
+        Step::Damage(pokes) => pokes.iter().map(poke_line).collect(),
+        Step::Resize { table, length } => vec![format!(
+            "# here the table {} is cut or filled with zeros to {length} cells",
+            table.name()
+        )],
+    }
+}
+
+/// The pokes that make the start of fresh tables of its level.
+fn start_pokes(start: &Model) -> Vec<Poke> {
+    let fresh = encode(&Model::fresh(start.level));
+    let tables = encode(start);
+    let pokes = Table::ALL.into_iter().flat_map(|table| {
+        let cells = tables.of(table).iter().zip(fresh.of(table)).enumerate();
+        let other = cells.filter(|(_, (value, fresh))| value != fresh);
+        let pokes = other.map(|(cell, (value, _))| Poke {
+            table,
+            cell,
+            value: *value,
+        });
+        pokes.collect::<Vec<Poke>>()
+    });
+    pokes.collect()
+}
+
+fn poke_line(poke: &Poke) -> String {
+    format!("poke {} {} {}", poke.table.name(), poke.cell, poke.value)
+}
+
+fn call_line(call: &Call, answer: Answer) -> String {
+    let mut line = call.name().to_string();
+    if let Call::CreateRuleset { bytes, flags } = call {
+        line += " hex=";
+        for byte in bytes {
+            let _ = write!(line, "{byte:02x}");
+        }
+        if *flags != 0 {
+            let _ = write!(line, " flags={flags}");
+        }
+    } else {
+        for number in written_numbers(call) {
+            let _ = write!(line, " {number}");
+        }
+    }
+    let makes = ["create_ruleset", "clone", "create", "link"].contains(&call.name());
+    let expected = match answer {
+        Ok(number) if makes => format!("new {number}"),
+        Ok(number) => number.to_string(),
+        Err(refusal) => format!("{:?}", refusal.errno()),
+    };
+    format!("{line} => {expected}")
+}
+
+/// The arguments as a scenario writes them: a rename's entry stands there or not.
+fn written_numbers(call: &Call) -> Vec<u64> {
+    match *call {
+        Call::Rename {
+            thread,
+            source,
+            directory,
+            replaces,
+            entry,
+        } => {
+            let mut numbers = vec![thread, source, directory];
+            if replaces != 0 {
+                numbers.push(entry);
+            }
+            numbers
+        }
+        _ => call.numbers(),
+    }
+}
+
+fn difference_lines(difference: &Difference) -> Vec<String> {
+    let mut lines = vec![
+        format!(
+            "# the last call differs; broker: {}",
+            reply_text(&difference.broker)
+        ),
+        format!("# model: {}", reply_text(&difference.model)),
+    ];
+    for cell in difference.cells.iter().take(CELLS) {
+        lines.push(format!(
+            "# cell {} {} (row {}, column {}): broker {}, model {}",
+            cell.table.name(),
+            cell.cell,
+            cell.cell / cell.table.width(),
+            cell.cell % cell.table.width(),
+            cell.broker,
+            cell.model
+        ));
+    }
+    if difference.cells.len() > CELLS {
+        lines.push(format!("# {} cells differ", difference.cells.len()));
+    }
+    lines
+}
+
+fn reply_text(reply: &Reply) -> String {
+    let errno = Errno::ALL
+        .into_iter()
+        .find(|errno| errno.returned() == reply.number);
+    let number = errno.map_or(reply.number.to_string(), |errno| format!("{errno:?}"));
+    match reply.part {
+        [0, 0] => number,
+        [first, count] => format!("{number}, part from cell {first}, {count} cells"),
+    }
+}

@@ -1,0 +1,371 @@
+//! Makes a case in which a broker differs from the model as short as it gets.
+
+use crate::call::{Broker, Call};
+use crate::compare::{first_difference, Case, Difference, Step};
+use crate::damage::Poke;
+use crate::reference::Reference;
+use crate::state::{Key, Model, Thread, ROOT};
+use crate::tables::Table;
+use std::ops::Range;
+
+/// The calls that shrinking may make on the broker.
+const CALLS: usize = 100_000;
+
+/// A short case that still differs, and how.
+pub fn shrink<B: Broker>(broker: &mut B, case: Case) -> Option<(Case, Difference)> {
+    let difference = first_difference(broker, &case)?;
+    let mut shrinker = Shrinker {
+        broker,
+        case,
+        difference,
+        calls: CALLS,
+    };
+    shrinker.cut();
+    shrinker.start_at_difference();
+    while shrinker.drop_steps()
+        | shrinker.drop_pokes()
+        | shrinker.simplify_calls()
+        | shrinker.drop_parts()
+        | shrinker.simplify_counters()
+    {}
+    Some((shrinker.case, shrinker.difference))
+}
+
+struct Shrinker<'a, B> {
+    broker: &'a mut B,
+    case: Case,
+    difference: Difference,
+    calls: usize,
+}
+
+impl<B: Broker> Shrinker<'_, B> {
+    /// Takes a candidate if it still differs.
+    fn differs(&mut self, candidate: Case) -> bool {
+        if candidate == self.case || self.calls < candidate.steps.len() {
+            return false;
+        }
+        self.calls -= candidate.steps.len();
+        let Some(difference) = first_difference(self.broker, &candidate) else {
+            return false;
+        };
+        self.case = candidate;
+        self.difference = difference;
+        self.cut();
+        true
+    }
+
+    /// Cuts the steps after the difference.
+    fn cut(&mut self) {
+        self.case.steps.truncate(self.difference.step + 1);
+    }
+
+    /// From tables that aren't fresh, starts as late as possible: at the last sound tables.
+    fn start_at_difference(&mut self) {
+        if self.case.start == Model::fresh(self.case.start.level) {
+            return;
+        }
+        let mut reference = Reference::new(&self.case.start);
+        let mut late = self.case.clone();
+        for (number, step) in self.case.steps.iter().enumerate() {
+            if let Ok(model) = reference.model() {
+                late = Case {
+                    start: model.clone(),
+                    steps: self.case.steps[number..].to_vec(),
+                };
+            }
+            reference.take(step);
+        }
+        self.differs(late);
+    }
+
+    /// Drops items in ever smaller groups while the case still differs.
+    fn drop_groups<T>(
+        &mut self,
+        items: impl Fn(&Case) -> Vec<T>,
+        without: impl Fn(&Case, &[T]) -> Case,
+    ) -> bool {
+        let mut better = false;
+        let mut size = items(&self.case).len();
+        while size > 0 {
+            let mut at = 0;
+            loop {
+                let all = items(&self.case);
+                if at >= all.len() {
+                    break;
+                }
+                let end = all.len().min(at + size);
+                if self.differs(without(&self.case, &all[at..end])) {
+                    better = true;
+                } else {
+                    at += size;
+                }
+            }
+            size /= 2;
+        }
+        better
+    }
+
+    fn drop_steps(&mut self) -> bool {
+        self.drop_groups(
+            |case| (0..case.steps.len()).collect(),
+            |case, dropped| {
+                let mut number = 0;
+                let mut shorter = case.clone();
+                shorter.steps.retain(|_| {
+                    number += 1;
+                    !dropped.contains(&(number - 1))
+                });
+                shorter
+            },
+        )
+    }
+
+    fn drop_pokes(&mut self) -> bool {
+        self.drop_groups(all_pokes, |case, dropped| {
+            let mut shorter = case.clone();
+            for (number, step) in shorter.steps.iter_mut().enumerate() {
+                if let Step::Damage(pokes) = step {
+                    pokes.retain(|poke| !dropped.contains(&(number, *poke)));
+                }
+            }
+            shorter
+        })
+    }
+
+    /// Replaces arguments by smaller ones.
+    fn simplify_calls(&mut self) -> bool {
+        let mut better = false;
+        let mut number = 0;
+        while let Some(step) = self.case.steps.get(number) {
+            let simpler = match step {
+                Step::Call(call) => simpler_calls(call),
+                _ => Vec::new(),
+            };
+            let taken = simpler.into_iter().any(|call| {
+                let mut candidate = self.case.clone();
+                candidate.steps[number] = Step::Call(call);
+                self.differs(candidate)
+            });
+            better |= taken;
+            if !taken {
+                number += 1;
+            }
+        }
+        better
+    }
+
+    fn drop_parts(&mut self) -> bool {
+        self.drop_groups(
+            |case| parts(&case.start),
+            |case, dropped| {
+                let mut shorter = case.clone();
+                for part in dropped.iter().rev() {
+                    drop_part(&mut shorter, part);
+                }
+                shorter
+            },
+        )
+    }
+
+    /// Packs the pool and lowers the object counter of the start.
+    fn simplify_counters(&mut self) -> bool {
+        let mut packed = self.case.clone();
+        pack_pool(&mut packed);
+        let better = self.differs(packed);
+        let mut lowered = self.case.clone();
+        lowered.start.next_object = lowest_counter(&lowered.start);
+        self.differs(lowered) || better
+    }
+}
+
+/// Every poke with the number of its step.
+fn all_pokes(case: &Case) -> Vec<(usize, Poke)> {
+    let steps = case.steps.iter().enumerate();
+    let pokes = steps.flat_map(|(number, step)| {
+        let pokes = match step {
+            Step::Damage(pokes) => pokes.as_slice(),
+            _ => &[],
+        };
+        pokes.iter().map(move |poke| (number, *poke))
+    });
+    pokes.collect()
+}
+
+/// Calls with one argument made smaller.
+fn simpler_calls(call: &Call) -> Vec<Call> {
+    let mut simpler = Vec::new();
+    for (at, number) in call.numbers().into_iter().enumerate() {
+        let steps = [number, number / 2, number / 4, number / 16, number / 256, 1];
+        for smaller in steps
+            .into_iter()
+            .filter_map(|step| number.checked_sub(step))
+        {
+            let mut candidate = call.clone();
+            *candidate.numbers_mut()[at] = smaller;
+            simpler.push(candidate);
+        }
+    }
+    if let Call::CreateRuleset { bytes, flags } = call {
+        let flags = *flags;
+        let lengths = [bytes.len() / 2, bytes.len().saturating_sub(1)];
+        let cut = lengths.map(|length| bytes[..length].to_vec());
+        let cleared = (0..bytes.len()).filter(|at| bytes[*at] != 0).map(|at| {
+            let mut bytes = bytes.clone();
+            bytes[at] = 0;
+            bytes
+        });
+        let all = cut.into_iter().chain(cleared);
+        simpler.extend(all.map(|bytes| Call::CreateRuleset { bytes, flags }));
+    }
+    simpler.retain(|candidate| candidate != call);
+    simpler
+}
+
+/// Something that sound tables can do without.
+enum Part {
+    Entry(u64),
+    Ruleset(u64),
+    RulesetRule(u64, Key),
+    Layer(usize),
+    LayerRule(usize, Key),
+    Stray(usize),
+    Thread(u64),
+}
+
+fn parts(model: &Model) -> Vec<Part> {
+    let mut parts: Vec<Part> = Vec::new();
+    parts.extend(model.strays.keys().map(|place| Part::Stray(*place)));
+    let fresh = (&0, &Thread::default());
+    let threads = model.threads.iter().filter(|thread| *thread != fresh);
+    parts.extend(threads.map(|(number, _)| Part::Thread(*number)));
+    for (number, ruleset) in &model.rulesets {
+        parts.push(Part::Ruleset(*number));
+        let keys = ruleset.rules.iter().map(|(key, _)| key);
+        parts.extend(keys.map(|key| Part::RulesetRule(*number, key)));
+    }
+    for (number, layer) in model.layers.iter().enumerate() {
+        parts.push(Part::Layer(number));
+        let keys = layer.rules.iter().map(|(key, _)| key);
+        parts.extend(keys.map(|key| Part::LayerRule(number, key)));
+    }
+    let entries = model.entries.keys().filter(|number| **number != ROOT);
+    parts.extend(entries.map(|number| Part::Entry(*number)));
+    parts
+}
+
+/// Drops a part of the start; pokes of cells that move follow them.
+fn drop_part(case: &mut Case, part: &Part) {
+    let model = &mut case.start;
+    match *part {
+        Part::Entry(number) => drop_entry(model, number),
+        Part::Ruleset(number) => {
+            model.rulesets.remove(&number);
+        }
+        Part::RulesetRule(number, key) => drop_ruleset_rule(case, number, key),
+        Part::Layer(number) => {
+            drop_layer(model, number);
+            let width = Table::Layers.width();
+            let after = width * (number + 1)..Table::Layers.length();
+            move_pokes(case, Table::Layers, after, width);
+        }
+        Part::LayerRule(number, key) => drop_layer_rule(case, number, key),
+        Part::Stray(place) => {
+            model.strays.remove(&place);
+        }
+        Part::Thread(number) => {
+            model.threads.remove(&number);
+        }
+    }
+}
+
+/// Lowers the cells that pokes write, where they lie in a part of a table.
+fn move_pokes(case: &mut Case, table: Table, cells: Range<usize>, by: usize) {
+    for step in &mut case.steps {
+        if let Step::Damage(pokes) = step {
+            let moved = pokes.iter_mut().filter(|poke| poke.table == table);
+            for poke in moved.filter(|poke| cells.contains(&poke.cell)) {
+                poke.cell -= by;
+            }
+        }
+    }
+}
+
+fn drop_ruleset_rule(case: &mut Case, number: u64, key: Key) {
+    let ruleset = case.start.rulesets.get_mut(&number);
+    if let Some(place) = ruleset.and_then(|ruleset| ruleset.rules.remove(key)) {
+        let row = Table::Rulesets.width() * number as usize;
+        let after = row + 4 + 3 * (place + 1)..row + Table::Rulesets.width();
+        move_pokes(case, Table::Rulesets, after, 3);
+    }
+}
+
+fn drop_layer_rule(case: &mut Case, number: usize, key: Key) {
+    let layer = &mut case.start.layers[number];
+    let Some(place) = layer.rules.remove(key) else {
+        return;
+    };
+    let after = 3 * (layer.place + place + 1)..3 * (layer.place + layer.rules.len() + 1);
+    if layer.rules.is_empty() {
+        layer.place = 0;
+    }
+    move_pokes(case, Table::Pool, after, 3);
+}
+
+/// Takes an entry out of the tree; its children go to its parent.
+fn drop_entry(model: &mut Model, number: u64) {
+    let Some(dropped) = model.entries.remove(&number) else {
+        return;
+    };
+    for entry in model.entries.values_mut() {
+        if entry.parent == number {
+            entry.parent = dropped.parent;
+        }
+    }
+}
+
+/// Takes a layer out of all domains; those after it get the numbers before theirs.
+fn drop_layer(model: &mut Model, number: usize) {
+    let dropped = model.layers.remove(number);
+    let moved = |layer: Option<usize>| match layer {
+        Some(layer) if layer == number => dropped.parent,
+        Some(layer) if layer > number => Some(layer - 1),
+        other => other,
+    };
+    for layer in &mut model.layers {
+        layer.parent = moved(layer.parent);
+    }
+    for thread in model.threads.values_mut() {
+        thread.youngest = moved(thread.youngest);
+    }
+}
+
+/// Closes the gaps between the layers' rules in the pool.
+fn pack_pool(case: &mut Case) {
+    case.start.strays.clear();
+    case.start.pool_used = 0;
+    let mut order: Vec<usize> = (0..case.start.layers.len()).collect();
+    order.sort_by_key(|number| case.start.layers[*number].place);
+    for number in order {
+        let layer = &mut case.start.layers[number];
+        let (place, count) = (layer.place, layer.rules.len());
+        if count > 0 {
+            layer.place = case.start.pool_used;
+            case.start.pool_used += count;
+            let by = 3 * (place - layer.place);
+            move_pokes(case, Table::Pool, 3 * place..3 * (place + count), by);
+        }
+    }
+}
+
+/// The least object counter that all entries and rules lie below.
+fn lowest_counter(model: &Model) -> u64 {
+    let layers = model.layers.iter().map(|layer| &layer.rules);
+    let rules = layers.chain(model.rulesets.values().map(|ruleset| &ruleset.rules));
+    let keys = rules.flat_map(|rules| rules.iter()).map(|(key, _)| key);
+    let ruled = keys.filter_map(|key| match key {
+        Key::Object(object) => Some(object),
+        Key::Port(_) => None,
+    });
+    let entries = model.entries.values().map(|entry| entry.object);
+    1 + ruled.chain(entries).max().unwrap_or(0)
+}

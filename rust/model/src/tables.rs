@@ -1,0 +1,172 @@
+//! The six tables of cells, and the model as their contents.
+
+use crate::rights::{Masks, Rights};
+use crate::state::{Key, Model, Rules, MAX_ENTRIES, MAX_RULES};
+
+/// The six tables.
+#[derive(Clone, Copy, PartialEq, Eq, PartialOrd, Ord, Debug)]
+pub enum Table {
+    System,
+    Entries,
+    Rulesets,
+    Layers,
+    Pool,
+    Threads,
+}
+
+impl Table {
+    pub const ALL: [Table; 6] = [
+        Table::System,
+        Table::Entries,
+        Table::Rulesets,
+        Table::Layers,
+        Table::Pool,
+        Table::Threads,
+    ];
+
+    pub fn name(self) -> &'static str {
+        ["system", "entries", "rulesets", "layers", "pool", "threads"][self as usize]
+    }
+
+    /// The cells of a row.
+    pub fn width(self) -> usize {
+        [4, 3, 196, 6, 3, 4][self as usize]
+    }
+
+    pub fn rows(self) -> usize {
+        [1, MAX_ENTRIES as usize, 16, 64, 1024, 8][self as usize]
+    }
+
+    pub fn length(self) -> usize {
+        self.width() * self.rows()
+    }
+}
+
+/// The cells of the six tables, of any length and contents.
+#[derive(Clone, PartialEq, Eq, Debug)]
+pub struct Tables {
+    pub cells: [Vec<u64>; 6],
+}
+
+impl Default for Tables {
+    /// Tables of the right lengths, all zero.
+    fn default() -> Tables {
+        Tables {
+            cells: Table::ALL.map(|table| vec![0; table.length()]),
+        }
+    }
+}
+
+impl Tables {
+    pub fn of(&self, table: Table) -> &[u64] {
+        &self.cells[table as usize]
+    }
+
+    pub fn of_mut(&mut self, table: Table) -> &mut Vec<u64> {
+        &mut self.cells[table as usize]
+    }
+
+    pub fn row(&self, table: Table, row: usize) -> &[u64] {
+        let width = table.width();
+        &self.of(table)[width * row..width * (row + 1)]
+    }
+
+    fn row_mut(&mut self, table: Table, row: usize) -> &mut [u64] {
+        let width = table.width();
+        &mut self.of_mut(table)[width * row..width * (row + 1)]
+    }
+
+    pub fn right_lengths(&self) -> bool {
+        Table::ALL
+            .into_iter()
+            .all(|table| self.of(table).len() == table.length())
+    }
+
+    /// Writes a cell, if the table has it.
+    pub fn poke(&mut self, table: Table, cell: usize, value: u64) {
+        if let Some(there) = self.of_mut(table).get_mut(cell) {
+            *there = value;
+        }
+    }
+}
+
+/// The cells that show a model.
+pub fn encode(model: &Model) -> Tables {
+    let mut tables = Tables::default();
+    encode_into(model, &mut tables);
+    tables
+}
+
+/// Writes the cells that show a model over tables of the right lengths.
+pub fn encode_into(model: &Model, tables: &mut Tables) {
+    for cells in &mut tables.cells {
+        cells.fill(0);
+    }
+    tables.row_mut(Table::System, 0).copy_from_slice(&[
+        model.level,
+        model.next_object,
+        model.layers.len() as u64,
+        model.pool_used as u64,
+    ]);
+    for (number, entry) in &model.entries {
+        let row = [entry.kind as u64, entry.parent, entry.object];
+        let cells = tables.row_mut(Table::Entries, *number as usize);
+        cells.copy_from_slice(&row);
+    }
+    for (number, thread) in &model.threads {
+        let youngest = after(thread.youngest);
+        let row = [1, youngest, thread.no_new_privs.into(), thread.admin.into()];
+        let cells = tables.row_mut(Table::Threads, *number as usize);
+        cells.copy_from_slice(&row);
+    }
+    encode_rulesets(model, tables);
+    encode_layers(model, tables);
+}
+
+fn encode_rulesets(model: &Model, tables: &mut Tables) {
+    for (number, ruleset) in &model.rulesets {
+        let row = tables.row_mut(Table::Rulesets, *number as usize);
+        row[..3].copy_from_slice(&mask_cells(ruleset.masks));
+        row[3] = ruleset.rules.len() as u64;
+        encode_rules(&ruleset.rules, &mut row[4..4 + 3 * MAX_RULES]);
+    }
+}
+
+fn encode_layers(model: &Model, tables: &mut Tables) {
+    for (place, cells) in &model.strays {
+        tables.row_mut(Table::Pool, *place).copy_from_slice(cells);
+    }
+    for (number, layer) in model.layers.iter().enumerate() {
+        let row = tables.row_mut(Table::Layers, number);
+        row[0] = after(layer.parent);
+        row[1..4].copy_from_slice(&mask_cells(layer.masks));
+        row[4] = layer.place as u64;
+        row[5] = layer.rules.len() as u64;
+        encode_rules(
+            &layer.rules,
+            &mut tables.of_mut(Table::Pool)[3 * layer.place..],
+        );
+    }
+}
+
+fn encode_rules(rules: &Rules, cells: &mut [u64]) {
+    for ((key, rights), rule) in rules.iter().zip(cells.chunks_exact_mut(3)) {
+        rule.copy_from_slice(&rule_cells(key, rights));
+    }
+}
+
+fn rule_cells(key: Key, rights: Rights) -> [u64; 3] {
+    match key {
+        Key::Object(object) => [1, object, rights.0],
+        Key::Port(port) => [2, port, rights.0],
+    }
+}
+
+fn mask_cells(masks: Masks) -> [u64; 3] {
+    [masks.fs.0, masks.net.0, masks.scope.0]
+}
+
+/// A layer's number plus 1, or 0 for none.
+fn after(layer: Option<usize>) -> u64 {
+    layer.map_or(0, |layer| layer as u64 + 1)
+}

@@ -1,0 +1,245 @@
+//! The calls that change the tree: create, remove, link, rename, exchange.
+
+use crate::refusal::{Answer, Refusal};
+use crate::rights::Rights;
+use crate::state::{lowest_free, Entry, Kind, Model, MAX_ENTRIES, OBJECTS_END, ROOT};
+
+/// The rights a call needs at the source's parent and at the target directory.
+struct Needs {
+    at_parent: Rights,
+    at_target: Rights,
+}
+
+/// The entries that a call of two directories names.
+struct Named {
+    /// The youngest layer of the calling thread's domain.
+    youngest: Option<usize>,
+    source: Entry,
+    /// The entry that is replaced or exchanged.
+    other: Option<Entry>,
+}
+
+impl Model {
+    pub fn create(&mut self, thread: u64, directory: u64, kind: u64) -> Answer {
+        let youngest = self.thread(thread)?.youngest;
+        let target = self.entry(directory)?;
+        needs_directory(target)?;
+        let kind = Kind::of_number(kind).ok_or(Refusal::UnknownKind)?;
+        self.needs_right(youngest, directory, kind.make())?;
+        let number = self.free_entry()?;
+        if self.next_object == OBJECTS_END {
+            return Err(Refusal::NoObjectNumber);
+        }
+        let object = self.next_object;
+        self.next_object += 1;
+        let parent = directory;
+        self.entries.insert(
+            number,
+            Entry {
+                kind,
+                parent,
+                object,
+            },
+        );
+        Ok(number)
+    }
+
+    pub fn remove(&mut self, thread: u64, entry: u64) -> Answer {
+        let youngest = self.thread(thread)?.youngest;
+        let removed = self.entry(entry)?;
+        not_root(entry)?;
+        self.needs_right(youngest, removed.parent, removed.kind.remove())?;
+        if self.has_children(entry) {
+            return Err(Refusal::DirectoryNotEmpty);
+        }
+        self.entries.remove(&entry);
+        Ok(0)
+    }
+
+    pub fn link(&mut self, thread: u64, source: u64, directory: u64) -> Answer {
+        let named = self.named(thread, source, directory, None)?;
+        let linked = named.source;
+        if linked.kind.is_directory() {
+            return Err(Refusal::LinkOfDirectory);
+        }
+        let needs = Needs {
+            at_parent: Rights::NONE,
+            at_target: linked.kind.make(),
+        };
+        self.verdict(&named, directory, needs)?;
+        self.moved_safely(named.youngest, source, linked.parent, directory)?;
+        let number = self.free_entry()?;
+        let parent = directory;
+        self.entries.insert(number, Entry { parent, ..linked });
+        Ok(number)
+    }
+
+    /// Moves an entry to a directory, in place of the replaced entry if there is one.
+    pub fn rename(
+        &mut self,
+        thread: u64,
+        source: u64,
+        directory: u64,
+        replaced: Option<u64>,
+    ) -> Answer {
+        let named = self.named(thread, source, directory, replaced)?;
+        self.child_of_target(&named, directory)?;
+        self.not_above(source, directory, Refusal::SourceAboveTarget)?;
+        let (moved, other) = (named.source, named.other);
+        let remove_other = other.map_or(Rights::NONE, |other| other.kind.remove());
+        let needs = Needs {
+            at_parent: moved.kind.remove(),
+            at_target: moved.kind.make().join(remove_other),
+        };
+        self.verdict(&named, directory, needs)?;
+        self.moved_safely(named.youngest, source, moved.parent, directory)?;
+        if let (Some(number), Some(other)) = (replaced, other) {
+            if other.object == moved.object {
+                return Ok(0);
+            }
+            self.replaceable(moved, number, other)?;
+            self.entries.remove(&number);
+        }
+        self.reparent(source, directory);
+        Ok(0)
+    }
+
+    pub fn exchange(&mut self, thread: u64, source: u64, directory: u64, entry: u64) -> Answer {
+        let named = self.named(thread, source, directory, Some(entry))?;
+        let parent = named.source.parent;
+        self.child_of_target(&named, directory)?;
+        self.not_above(source, directory, Refusal::SourceAboveTarget)?;
+        self.not_above(entry, parent, Refusal::OtherAboveSource)?;
+        let other = self.entry(entry)?;
+        let (k1, k2) = (named.source.kind, other.kind);
+        let needs = Needs {
+            at_parent: k1.remove().join(k2.make()),
+            at_target: k1.make().join(k2.remove()),
+        };
+        self.verdict(&named, directory, needs)?;
+        self.moved_safely(named.youngest, source, parent, directory)?;
+        if !self.contained(named.youngest, entry, directory, parent) {
+            return Err(Refusal::OtherNotContained);
+        }
+        if other.object != named.source.object {
+            self.reparent(source, directory);
+            self.reparent(entry, parent);
+        }
+        Ok(0)
+    }
+
+    /// The checks that link, rename and exchange share.
+    fn named(
+        &self,
+        thread: u64,
+        source: u64,
+        directory: u64,
+        other: Option<u64>,
+    ) -> Result<Named, Refusal> {
+        let named = Named {
+            youngest: self.thread(thread)?.youngest,
+            source: self.entry(source)?,
+            other: other.map(|other| self.entry(other)).transpose()?,
+        };
+        let target = self.entry(directory)?;
+        not_root(source)?;
+        other.map_or(Ok(()), not_root)?;
+        needs_directory(target)?;
+        Ok(named)
+    }
+
+    fn child_of_target(&self, named: &Named, directory: u64) -> Result<(), Refusal> {
+        match named.other {
+            Some(other) if other.parent != directory => Err(Refusal::NotChildOfTarget),
+            _ => Ok(()),
+        }
+    }
+
+    /// Refuses where `upper` is `lower` or above it.
+    fn not_above(&self, upper: u64, lower: u64, refusal: Refusal) -> Result<(), Refusal> {
+        if self.way_up(lower).contains(&upper) {
+            Err(refusal)
+        } else {
+            Ok(())
+        }
+    }
+
+    /// Refuses where the domain denies a right at a directory.
+    fn needs_right(
+        &self,
+        youngest: Option<usize>,
+        directory: u64,
+        right: Rights,
+    ) -> Result<(), Refusal> {
+        if self.denied_by_domain(youngest, directory).meets(right) {
+            Err(Refusal::AccessDenied)
+        } else {
+            Ok(())
+        }
+    }
+
+    /// Refuses a denied need at either directory, then a denied REFER between two directories.
+    fn verdict(&self, named: &Named, directory: u64, needs: Needs) -> Result<(), Refusal> {
+        let parent = named.source.parent;
+        let at_parent = self.denied_by_domain(named.youngest, parent);
+        let at_target = self.denied_by_domain(named.youngest, directory);
+        if at_parent.meets(needs.at_parent) || at_target.meets(needs.at_target) {
+            return Err(Refusal::AccessDenied);
+        }
+        if parent != directory && at_parent.join(at_target).meets(Rights::REFER) {
+            return Err(Refusal::ReferDenied);
+        }
+        Ok(())
+    }
+
+    /// Refuses a move through which the moved entry or something below it would gain a right.
+    fn moved_safely(
+        &self,
+        youngest: Option<usize>,
+        moved: u64,
+        from: u64,
+        to: u64,
+    ) -> Result<(), Refusal> {
+        if self.contained(youngest, moved, from, to) {
+            Ok(())
+        } else {
+            Err(Refusal::NotContained)
+        }
+    }
+
+    /// Refuses a replacement between a directory and something else, or of a directory in use.
+    fn replaceable(&self, moved: Entry, number: u64, other: Entry) -> Result<(), Refusal> {
+        match (moved.kind.is_directory(), other.kind.is_directory()) {
+            (true, false) => Err(Refusal::DirectoryOverFile),
+            (false, true) => Err(Refusal::FileOverDirectory),
+            _ if self.has_children(number) => Err(Refusal::DirectoryNotEmpty),
+            _ => Ok(()),
+        }
+    }
+
+    fn free_entry(&self) -> Answer {
+        lowest_free(&self.entries, MAX_ENTRIES).ok_or(Refusal::NoFreeEntry)
+    }
+
+    fn reparent(&mut self, entry: u64, directory: u64) {
+        if let Some(entry) = self.entries.get_mut(&entry) {
+            entry.parent = directory;
+        }
+    }
+}
+
+fn not_root(entry: u64) -> Result<(), Refusal> {
+    if entry == ROOT {
+        Err(Refusal::RootNamed)
+    } else {
+        Ok(())
+    }
+}
+
+fn needs_directory(target: Entry) -> Result<(), Refusal> {
+    if target.kind.is_directory() {
+        Ok(())
+    } else {
+        Err(Refusal::TargetNotDirectory)
+    }
+}

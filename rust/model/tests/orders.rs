@@ -1,0 +1,407 @@
+//! Pairs of refusals that hold at once: the one that stands first in the order answers, and nothing
+//! changes.
+
+use model::call::Call;
+use model::refusal::Refusal::{self, *};
+use model::rights::{Masks, Rights};
+use model::state::{Key, Model, Ruleset, Thread, OBJECTS_END};
+
+const REGULAR: u64 = 1;
+const DIRECTORY: u64 = 2;
+
+/// Directories 1 and 2, files 3 in 1 and 4 in 2, a directory 5 in 2 with a file 6; a ruleset 0.
+fn sample() -> Model {
+    let mut model = Model::fresh(6);
+    let places = [
+        (0, DIRECTORY),
+        (0, DIRECTORY),
+        (1, REGULAR),
+        (2, REGULAR),
+        (2, DIRECTORY),
+        (5, REGULAR),
+    ];
+    for (directory, kind) in places {
+        model.create(0, directory, kind).unwrap();
+    }
+    open(&mut model, Rights::ALL);
+    model.set_no_new_privs(0).unwrap();
+    model
+}
+
+/// Opens a ruleset that handles file system rights and both network rights.
+fn open(model: &mut Model, fs: Rights) -> u64 {
+    let fields = [fs.0, 3, 0];
+    let bytes: Vec<u8> = fields.into_iter().flat_map(u64::to_le_bytes).collect();
+    model.create_ruleset(&bytes, 0).unwrap()
+}
+
+/// Gives thread 0 a layer that handles rights and grants none.
+fn deny(model: &mut Model, fs: Rights) {
+    let ruleset = open(model, fs);
+    model.restrict(0, ruleset, 0).unwrap();
+    model.close_ruleset(ruleset).unwrap();
+}
+
+/// The call is refused, and the model stays as it was.
+fn refused(model: &Model, call: Call, refusal: Refusal) {
+    let mut after = model.clone();
+    assert_eq!(after.answer(&call).0, Err(refusal), "{call:?}");
+    assert_eq!(&after, model, "{call:?}");
+}
+
+fn create_ruleset(bytes: &[u8], flags: u64) -> Call {
+    let bytes = bytes.to_vec();
+    Call::CreateRuleset { bytes, flags }
+}
+
+#[test]
+fn create_ruleset_order() {
+    let mut model = Model::fresh(6);
+    refused(&Model::fresh(0), create_ruleset(&[], 1), Disabled);
+    refused(&model, create_ruleset(&[0; 4097], 1), FlagsNotZero);
+    refused(&model, create_ruleset(&[255; 4097], 0), AttributeTooLong);
+    let mut bytes = [0; 25];
+    bytes[7] = 1;
+    bytes[24] = 1;
+    refused(&model, create_ruleset(&bytes, 0), BytePastKnownSize);
+    for _ in 0..16 {
+        open(&mut model, Rights::EXECUTE);
+    }
+    refused(&model, create_ruleset(&bytes[..24], 0), UnknownBit);
+    refused(&model, create_ruleset(&[0; 24], 0), NothingHandled);
+    refused(
+        &model,
+        create_ruleset(&[1, 0, 0, 0, 0, 0, 0, 0], 0),
+        NoFreeRuleset,
+    );
+}
+
+#[test]
+fn short_attributes_are_filled_with_zeros() {
+    let mut model = Model::fresh(6);
+    let mut bytes = [0; 17];
+    bytes[8] = 3;
+    bytes[16] = 1;
+    model.create_ruleset(&bytes, 0).unwrap();
+    let expected = Masks {
+        fs: Rights::NONE,
+        net: Rights::NETWORK,
+        scope: Rights(1),
+    };
+    assert_eq!(model.rulesets[&0].masks, expected);
+}
+
+fn path_rule(ruleset: u64, entry: u64, rights: u64, flags: u64) -> Call {
+    Call::AddPathRule {
+        ruleset,
+        entry,
+        rights,
+        flags,
+    }
+}
+
+fn port_rule(ruleset: u64, port: u64, rights: u64, flags: u64) -> Call {
+    Call::AddPortRule {
+        ruleset,
+        port,
+        rights,
+        flags,
+    }
+}
+
+#[test]
+fn path_rule_order() {
+    let mut model = sample();
+    let narrow = open(&mut model, Rights::READ_DIR);
+    refused(&Model::fresh(0), path_rule(9, 99, 0, 1), Disabled);
+    refused(&model, path_rule(9, 99, 0, 1), FlagsNotZero);
+    refused(&model, path_rule(9, 99, 0, 0), RulesetNotOpen);
+    refused(&model, path_rule(0, 99, 0, 0), NoRights);
+    refused(&model, path_rule(narrow, 99, 8192, 0), RightsNotHandled);
+    refused(&model, path_rule(narrow, 99, 8, 0), RuleEntryNotLive);
+    fill(&mut model, narrow);
+    refused(&model, path_rule(narrow, 3, 8, 0), RightsNotForFile);
+    refused(&model, path_rule(narrow, 1, 8, 0), RulesetFull);
+}
+
+#[test]
+fn port_rule_order() {
+    let mut model = sample();
+    refused(&Model::fresh(0), port_rule(9, 65_536, 0, 1), Disabled);
+    refused(&model, port_rule(9, 65_536, 0, 1), FlagsNotZero);
+    refused(&model, port_rule(9, 65_536, 0, 0), RulesetNotOpen);
+    refused(&model, port_rule(0, 65_536, 0, 0), NoRights);
+    refused(&model, port_rule(0, 65_536, 4, 0), RightsNotHandled);
+    fill(&mut model, 0);
+    refused(&model, port_rule(0, 65_536, 1, 0), PortOutOfRange);
+    refused(&model, port_rule(0, 65_535, 1, 0), RulesetFull);
+    assert_eq!(model.add_port_rule(0, 63, 2, 0), Ok(0));
+    assert_eq!(model.rulesets[&0].rules.granted(Key::Port(63)), Rights(3));
+}
+
+/// Fills a ruleset with rules for ports 0 to 63.
+fn fill(model: &mut Model, ruleset: u64) {
+    for port in 0..64 {
+        model.add_port_rule(ruleset, port, 1, 0).unwrap();
+    }
+}
+
+fn restrict(thread: u64, ruleset: u64, flags: u64) -> Call {
+    Call::Restrict {
+        thread,
+        ruleset,
+        flags,
+    }
+}
+
+#[test]
+fn restrict_order() {
+    let mut model = sample();
+    let unmarked = model.clone_thread(0).unwrap();
+    model.threads.insert(unmarked, Thread::default());
+    refused(&Model::fresh(0), restrict(8, 9, 1), ThreadNotLive);
+    refused(&Model::fresh(0), restrict(0, 9, 1), Disabled);
+    refused(&model, restrict(unmarked, 9, 1), NoMark);
+    refused(&model, restrict(0, 9, 1), FlagsNotZero);
+    for _ in 0..16 {
+        model.restrict(0, 0, 0).unwrap();
+    }
+    refused(&model, restrict(0, 9, 0), RulesetNotOpen);
+    model.set_admin(unmarked, true).unwrap();
+    for _ in 0..3 {
+        for _ in 0..16 {
+            model.restrict(unmarked, 0, 0).unwrap();
+        }
+        model
+            .threads
+            .insert(unmarked, *model.threads.get(&0).unwrap());
+        model.threads.get_mut(&unmarked).unwrap().youngest = None;
+    }
+    refused(&model, restrict(0, 0, 0), DomainFull);
+    refused(&model, restrict(unmarked, 0, 0), NoFreeLayer);
+}
+
+#[test]
+fn the_pool_runs_full() {
+    let mut model = sample();
+    fill(&mut model, 0);
+    for _ in 0..16 {
+        model.restrict(0, 0, 0).unwrap();
+    }
+    model.threads.insert(0, Thread::default());
+    model.set_admin(0, true).unwrap();
+    refused(&model, restrict(0, 0, 0), PoolFull);
+    deny(&mut model, Rights::EXECUTE);
+    let empty = model.layers.last().unwrap();
+    assert_eq!((empty.place, empty.rules.len()), (0, 0));
+}
+
+#[test]
+fn a_layer_keeps_its_rules() {
+    let mut model = sample();
+    model.add_path_rule(0, 1, 4, 0).unwrap();
+    model.restrict(0, 0, 0).unwrap();
+    model.add_path_rule(0, 2, 4, 0).unwrap();
+    model.close_ruleset(0).unwrap();
+    assert_eq!(model.layer_rules(0), Ok((0, 1)));
+    assert_eq!(model.layer_rules(1), Err(LayerNotInUse));
+    assert_eq!(model.layer_rules(u64::MAX), Err(LayerNotInUse));
+}
+
+#[test]
+fn requests_order() {
+    let mut model = sample();
+    deny(&mut model, Rights::EXECUTE);
+    let access = |thread, entry, rights| Call::Access {
+        thread,
+        entry,
+        rights,
+    };
+    refused(&model, access(8, 99, 0), ThreadNotLive);
+    refused(&model, access(0, 99, 0), EntryNotLive);
+    refused(&model, access(0, 3, 0), EmptyMask);
+    refused(&model, access(0, 3, 1 << 16), UnknownBit);
+    refused(&model, access(0, 3, 8 | 1), RightsNotForFile);
+    refused(&model, access(0, 3, 1), AccessDenied);
+    let port = |thread, port, rights| Call::Port {
+        thread,
+        port,
+        rights,
+    };
+    refused(&model, port(8, 65_536, 0), ThreadNotLive);
+    refused(&model, port(0, 65_536, 0), PortOutOfRange);
+    refused(&model, port(0, 80, 0), EmptyMask);
+    refused(&model, port(0, 80, 4), UnknownBit);
+    refused(&model, port(0, 80, 1), AccessDenied);
+}
+
+#[test]
+fn create_order() {
+    let create = |thread, directory, kind| Call::Create {
+        thread,
+        directory,
+        kind,
+    };
+    let mut model = sample();
+    refused(&model, create(8, 99, 0), ThreadNotLive);
+    refused(&model, create(0, 99, 0), EntryNotLive);
+    refused(&model, create(0, 3, 0), TargetNotDirectory);
+    while model.create(0, 1, REGULAR).is_ok() {}
+    let mut denied = model.clone();
+    deny(&mut denied, Rights::MAKE_REG);
+    refused(&denied, create(0, 1, 8), UnknownKind);
+    refused(&denied, create(0, 1, REGULAR), AccessDenied);
+    refused(&model, create(0, 1, REGULAR), NoFreeEntry);
+    model.remove(0, 3).unwrap();
+    model.next_object = OBJECTS_END;
+    refused(&model, create(0, 1, REGULAR), NoObjectNumber);
+    assert_eq!(model.link(0, 4, 1), Ok(3));
+}
+
+#[test]
+fn remove_order() {
+    let remove = |thread, entry| Call::Remove { thread, entry };
+    let mut model = sample();
+    refused(&model, remove(8, 99), ThreadNotLive);
+    refused(&model, remove(0, 99), EntryNotLive);
+    refused(&model, remove(0, 5), DirectoryNotEmpty);
+    deny(&mut model, Rights::REMOVE_DIR);
+    refused(&model, remove(0, 0), RootNamed);
+    refused(&model, remove(0, 5), AccessDenied);
+    assert_eq!(model.remove(0, 3), Ok(0));
+}
+
+#[test]
+fn link_order() {
+    let link = |thread, source, directory| Call::Link {
+        thread,
+        source,
+        directory,
+    };
+    let mut model = sample();
+    refused(&model, link(8, 99, 99), ThreadNotLive);
+    refused(&model, link(0, 0, 99), EntryNotLive);
+    refused(&model, link(0, 0, 3), RootNamed);
+    refused(&model, link(0, 1, 3), TargetNotDirectory);
+    while model.create(0, 1, REGULAR).is_ok() {}
+    refused(&model, link(0, 3, 1), NoFreeEntry);
+    deny(&mut model, Rights::EXECUTE);
+    refused(&model, link(0, 3, 2), ReferDenied);
+    deny(&mut model, Rights::MAKE_REG);
+    refused(&model, link(0, 1, 2), LinkOfDirectory);
+    refused(&model, link(0, 3, 2), AccessDenied);
+}
+
+fn rename(thread: u64, source: u64, directory: u64, entry: Option<u64>) -> Call {
+    Call::Rename {
+        thread,
+        source,
+        directory,
+        replaces: entry.is_some().into(),
+        entry: entry.unwrap_or(u64::MAX),
+    }
+}
+
+#[test]
+fn rename_order() {
+    let mut model = sample();
+    refused(&model, rename(8, 99, 99, None), ThreadNotLive);
+    refused(&model, rename(0, 0, 3, Some(99)), EntryNotLive);
+    refused(&model, rename(0, 3, 4, Some(0)), RootNamed);
+    refused(&model, rename(0, 3, 4, Some(5)), TargetNotDirectory);
+    refused(&model, rename(0, 2, 5, Some(3)), NotChildOfTarget);
+    refused(&model, rename(0, 2, 5, Some(6)), SourceAboveTarget);
+    refused(&model, rename(0, 1, 2, Some(4)), DirectoryOverFile);
+    refused(&model, rename(0, 3, 2, Some(5)), FileOverDirectory);
+    refused(&model, rename(0, 6, 2, Some(5)), FileOverDirectory);
+    refused(&model, rename(0, 1, 2, Some(5)), DirectoryNotEmpty);
+    deny(&mut model, Rights::EXECUTE);
+    refused(&model, rename(0, 1, 2, Some(4)), ReferDenied);
+    deny(&mut model, Rights::REMOVE_FILE);
+    refused(&model, rename(0, 1, 2, Some(4)), AccessDenied);
+}
+
+#[test]
+fn rename_of_one_object_changes_nothing() {
+    let mut model = sample();
+    let link = model.link(0, 3, 2).unwrap();
+    let before = model.clone();
+    assert_eq!(model.rename(0, 3, 2, Some(link)), Ok(0));
+    assert_eq!(model.rename(0, 3, 1, Some(3)), Ok(0));
+    assert_eq!(model.exchange(0, 3, 2, link), Ok(0));
+    assert_eq!(model, before);
+}
+
+#[test]
+fn rename_replaces() {
+    let mut model = sample();
+    assert_eq!(model.rename(0, 3, 2, Some(4)), Ok(0));
+    assert_eq!(model.entries[&3].parent, 2);
+    assert!(!model.entries.contains_key(&4));
+    assert_eq!(model.create(0, 0, REGULAR), Ok(4));
+    assert_eq!(model.entries[&4].object, 7);
+}
+
+fn exchange(thread: u64, source: u64, directory: u64, entry: u64) -> Call {
+    Call::Exchange {
+        thread,
+        source,
+        directory,
+        entry,
+    }
+}
+
+#[test]
+fn exchange_order() {
+    let mut model = sample();
+    refused(&model, exchange(8, 99, 99, 99), ThreadNotLive);
+    refused(&model, exchange(0, 0, 3, 99), EntryNotLive);
+    refused(&model, exchange(0, 3, 4, 0), RootNamed);
+    refused(&model, exchange(0, 2, 4, 5), TargetNotDirectory);
+    refused(&model, exchange(0, 2, 5, 3), NotChildOfTarget);
+    refused(&model, exchange(0, 2, 5, 6), SourceAboveTarget);
+    deny(&mut model, Rights::REMOVE_FILE);
+    refused(&model, exchange(0, 6, 2, 5), OtherAboveSource);
+    refused(&model, exchange(0, 6, 0, 2), OtherAboveSource);
+    refused(&model, exchange(0, 3, 2, 4), AccessDenied);
+    assert_eq!(model.exchange(0, 1, 0, 2), Ok(0));
+}
+
+/// A layer under which a directory grants more than the other one.
+fn uneven(richer: u64) -> Model {
+    let mut model = sample();
+    let fs = Rights::REFER.join(Rights::EXECUTE);
+    let ruleset = Ruleset {
+        masks: Masks {
+            fs,
+            ..Masks::default()
+        },
+        ..Ruleset::default()
+    };
+    model.rulesets.insert(15, ruleset);
+    model.add_path_rule(15, 0, Rights::REFER.0, 0).unwrap();
+    model
+        .add_path_rule(15, richer, Rights::EXECUTE.0, 0)
+        .unwrap();
+    model.restrict(0, 15, 0).unwrap();
+    model
+}
+
+#[test]
+fn exchange_asks_both_containments() {
+    refused(&uneven(2), exchange(0, 3, 2, 4), NotContained);
+    refused(&uneven(1), exchange(0, 3, 2, 4), OtherNotContained);
+    assert_eq!(uneven(1).rename(0, 3, 2, Some(4)), Ok(0));
+}
+
+#[test]
+fn threads_order() {
+    let mut model = sample();
+    refused(&model, Call::Clone { thread: 8 }, ThreadNotLive);
+    refused(&model, Call::SetNoNewPrivs { thread: 7 }, ThreadNotLive);
+    refused(&model, Call::SetAdmin { thread: 7, on: 0 }, ThreadNotLive);
+    while model.clone_thread(0).is_ok() {}
+    refused(&model, Call::Clone { thread: 0 }, NoFreeThread);
+    assert_eq!(model.threads.len(), 8);
+    assert!(model.threads.values().all(|thread| thread.no_new_privs));
+}

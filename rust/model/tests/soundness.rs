@@ -1,0 +1,197 @@
+//! Each clause of soundness broken alone in otherwise sound tables.
+
+use model::call::{Broker, Call};
+use model::random::Random;
+use model::reference::Rereading;
+use model::refusal::Errno;
+use model::rights::Rights;
+use model::sound::Unsound::{self, *};
+use model::sound::{check, decode};
+use model::start::start;
+use model::state::Model;
+use model::tables::Table::{self, *};
+use model::tables::{encode, Tables};
+
+/// Tables with two directories, a file of two links, rules, three layers and a thread with two.
+fn sample() -> Tables {
+    let mut model = Model::fresh(6);
+    for (directory, kind) in [(0, 2), (1, 2), (2, 1)] {
+        model.create(0, directory, kind).unwrap();
+    }
+    model.link(0, 3, 1).unwrap();
+    let fields = [Rights::ALL.without(Rights::REFER).0, 1, 0];
+    let bytes: Vec<u8> = fields.into_iter().flat_map(u64::to_le_bytes).collect();
+    model.create_ruleset(&bytes, 0).unwrap();
+    model.set_admin(0, true).unwrap();
+    model.restrict(0, 0, 0).unwrap();
+    model.add_path_rule(0, 3, 4, 0).unwrap();
+    model.add_port_rule(0, 80, 1, 0).unwrap();
+    model.add_path_rule(0, 1, 8, 0).unwrap();
+    model.restrict(0, 0, 0).unwrap();
+    model.restrict(0, 0, 0).unwrap();
+    encode(&model)
+}
+
+/// Writing the cells breaks the clause.
+fn broken(clause: Unsound, pokes: &[(Table, usize, u64)]) {
+    let mut tables = sample();
+    for (table, cell, value) in pokes {
+        tables.poke(*table, *cell, *value);
+    }
+    assert_eq!(check(&tables).err(), Some(clause), "{pokes:?}");
+    let before = tables.clone();
+    let reply = Rereading.answer(&mut tables, &Call::Clone { thread: 0 });
+    assert_eq!(reply.number, Errno::EIO.returned());
+    assert_eq!(tables, before);
+}
+
+/// Writing the cells leaves the tables sound.
+fn harmless(pokes: &[(Table, usize, u64)]) {
+    let mut tables = sample();
+    for (table, cell, value) in pokes {
+        tables.poke(*table, *cell, *value);
+    }
+    let model = check(&tables).unwrap();
+    assert_eq!(encode(&model), tables);
+}
+
+#[test]
+fn the_sample_is_sound() {
+    harmless(&[]);
+}
+
+#[test]
+fn counters() {
+    broken(Level, &[(System, 0, 7)]);
+    broken(ObjectCounter, &[(System, 1, 0)]);
+    broken(ObjectCounter, &[(System, 1, (1 << 32) + 1)]);
+    broken(LayerCounter, &[(System, 2, 65)]);
+    broken(PoolCounter, &[(System, 3, 1025)]);
+    harmless(&[(System, 1, 1 << 32)]);
+    harmless(&[(System, 3, 1024)]);
+}
+
+#[test]
+fn tree() {
+    broken(Root, &[(Entries, 1, 1)]);
+    broken(Root, &[(Entries, 2, 4)]);
+    broken(Unsound::Kind, &[(Entries, 3 * 3, 8)]);
+    broken(FreeEntry, &[(Entries, 3 * 9 + 1, 1)]);
+    broken(ParentNotLive, &[(Entries, 3 * 3 + 1, 9)]);
+    broken(ParentNotLive, &[(Entries, 3 * 3 + 1, 1 << 63)]);
+    broken(ParentNotDirectory, &[(Entries, 3 * 4 + 1, 3)]);
+    broken(NotBelowRoot, &[(Entries, 3 + 1, 1)]);
+    broken(NotBelowRoot, &[(Entries, 3 + 1, 2)]);
+    broken(ObjectNotBelowCounter, &[(Entries, 3 * 3 + 2, 4)]);
+    broken(LinksOfTwoKinds, &[(Entries, 3 * 4, 5)]);
+    broken(LinkedDirectory, &[(Entries, 3 * 2 + 2, 1)]);
+    broken(LinkedDirectory, &[(Entries, 3 * 2 + 2, 0)]);
+}
+
+#[test]
+fn rulesets() {
+    broken(ClosedRuleset, &[(Rulesets, 196 + 3, 1)]);
+    broken(ClosedRuleset, &[(Rulesets, 196 + 195, 1)]);
+    broken(MasksNotOfLevel, &[(Rulesets, 0, 1 << 16)]);
+    broken(MasksNotOfLevel, &[(Rulesets, 1, 5)]);
+    broken(MasksNotOfLevel, &[(Rulesets, 2, 4)]);
+    broken(TooManyRules, &[(Rulesets, 3, 65)]);
+    broken(FreeRule, &[(Rulesets, 4 + 3 * 3 + 1, 1)]);
+    broken(RuleGrantsNothing, &[(Rulesets, 3, 4)]);
+    harmless(&[(Rulesets, 2, 3)]);
+}
+
+#[test]
+fn rules() {
+    broken(RuleType, &[(Rulesets, 4, 3)]);
+    broken(RuleObject, &[(Rulesets, 5, 4)]);
+    broken(RulePort, &[(Rulesets, 8, 65_536)]);
+    broken(RuleGrantsNothing, &[(Rulesets, 6, 0)]);
+    broken(RuleNotAsked, &[(Rulesets, 9, 2)]);
+    broken(RuleNotAsked, &[(Rulesets, 12, 1 << 13)]);
+    broken(RuleTwice, &[(Rulesets, 5, 1)]);
+    broken(RuleNotForFile, &[(Rulesets, 6, 8)]);
+    harmless(&[(Rulesets, 8, 3)]);
+    harmless(&[(System, 1, 9), (Rulesets, 5, 8), (Rulesets, 6, 8)]);
+}
+
+#[test]
+fn layers() {
+    let twice = [(Layers, 6 * 2 + 4, 1), (Layers, 6 * 2 + 5, 2)];
+    broken(LayerHandlesNothing, &[(Layers, 1, 0), (Layers, 2, 0)]);
+    broken(MasksNotOfLevel, &[(Layers, 3, 4)]);
+    broken(FreeLayer, &[(Layers, 6 * 3, 1)]);
+    broken(FreeLayer, &[(System, 2, 2), (Threads, 1, 2)]);
+    broken(LayerParent, &[(Layers, 6, 2)]);
+    broken(EmptyRunPlace, &[(Layers, 4, 1)]);
+    broken(RunNotInPool, &[(Layers, 6 * 2 + 4, 4)]);
+    broken(RunNotInPool, &[(Layers, 6 * 2 + 4, u64::MAX)]);
+    broken(RunsOverlap, &twice);
+    broken(TooManyRules, &[(System, 3, 1024), (Layers, 5, 65)]);
+    broken(FreePool, &[(Pool, 3 * 6 + 2, 1)]);
+    broken(RuleTwice, &[(Pool, 1, 1)]);
+    harmless(&[(System, 3, 8), (Pool, 3 * 7, 99)]);
+}
+
+#[test]
+fn threads() {
+    broken(ThreadLive, &[(Threads, 0, 2)]);
+    broken(FreeThread, &[(Threads, 4 * 7 + 3, 1)]);
+    broken(YoungestLayer, &[(Threads, 1, 4)]);
+    broken(Marks, &[(Threads, 2, 2)]);
+    broken(Marks, &[(Threads, 3, 2)]);
+    harmless(&[(Threads, 0, 0), (Threads, 1, 0), (Threads, 3, 0)]);
+}
+
+#[test]
+fn deep_domains() {
+    let mut model = decode(&sample()).unwrap();
+    model.layers.truncate(1);
+    model.threads.get_mut(&0).unwrap().youngest = None;
+    for number in 1..17 {
+        let mut layer = model.layers[0].clone();
+        layer.parent = Some(number - 1);
+        model.layers.push(layer);
+    }
+    model.threads.get_mut(&0).unwrap().youngest = Some(15);
+    assert_eq!(decode(&encode(&model)), Some(model.clone()));
+    model.threads.get_mut(&0).unwrap().youngest = Some(16);
+    assert_eq!(check(&encode(&model)).err(), Some(DomainTooDeep));
+}
+
+#[test]
+fn lengths() {
+    for table in Table::ALL {
+        for length in [0, table.length() - 1, table.length() + 1] {
+            let mut tables = sample();
+            tables.of_mut(table).resize(length, 0);
+            assert_eq!(check(&tables).err(), Some(Lengths));
+            let reply = Rereading.answer(&mut tables, &Call::Fresh { level: 7 });
+            assert_eq!(reply.number, Errno::EIO.returned());
+        }
+    }
+}
+
+#[test]
+fn fresh_looks_at_lengths_alone() {
+    let mut tables = sample();
+    for cells in &mut tables.cells {
+        cells.fill(u64::MAX);
+    }
+    let before = tables.clone();
+    let reply = Rereading.answer(&mut tables, &Call::Fresh { level: 7 });
+    assert_eq!(reply.number, Errno::EINVAL.returned());
+    assert_eq!(tables, before);
+    let reply = Rereading.answer(&mut tables, &Call::Fresh { level: 6 });
+    assert_eq!(reply.number, 0);
+    assert_eq!(tables, encode(&Model::fresh(6)));
+}
+
+#[test]
+fn random_starts_are_sound() {
+    let mut random = Random::new(7);
+    for _ in 0..300 {
+        let model = start(&mut random);
+        assert_eq!(check(&encode(&model)), Ok(model));
+    }
+}

@@ -1,0 +1,205 @@
+//! The command line.
+use std::ffi::{OsStr, OsString};
+use std::io::IsTerminal;
+
+/// What to do.
+#[derive(Debug, PartialEq, Eq)]
+pub enum Command {
+    Run(OsString),
+    Explain(OsString),
+    Demo,
+    Help,
+    Version,
+}
+
+/// When to colour.
+#[derive(Clone, Copy, Debug, Default, PartialEq, Eq)]
+pub enum Color {
+    Always,
+    Never,
+    #[default]
+    Auto,
+}
+
+impl Color {
+    fn parse(word: &str) -> Result<Color, String> {
+        match word {
+            "always" => Ok(Color::Always),
+            "never" => Ok(Color::Never),
+            "auto" => Ok(Color::Auto),
+            _ => Err(format!("--color is always, never or auto, not `{word}`")),
+        }
+    }
+
+    /// Whether standard output is to be coloured.
+    pub fn wanted(self) -> bool {
+        match self {
+            Color::Always => true,
+            Color::Never => false,
+            Color::Auto => {
+                std::env::var_os("NO_COLOR").is_none() && std::io::stdout().is_terminal()
+            }
+        }
+    }
+}
+
+/// A command with its options.
+#[derive(Debug, PartialEq, Eq)]
+pub struct Options {
+    pub command: Command,
+    pub json: bool,
+    pub all_rights: bool,
+    pub color: Color,
+}
+
+/// The words so far.
+#[derive(Default)]
+struct Words {
+    plain: Vec<OsString>,
+    json: bool,
+    all_rights: bool,
+    color: Option<Color>,
+    asked: Option<Command>,
+}
+
+/// Reads the words after the program's name; answers what is wrong with them where something is.
+pub fn parse(mut words: impl Iterator<Item = OsString>) -> Result<Options, String> {
+    let mut read = Words::default();
+    while let Some(word) = words.next() {
+        if word == "--" {
+            read.plain.extend(words);
+            break;
+        }
+        read.take(word, &mut words)?;
+    }
+    read.options()
+}
+
+impl Words {
+    fn take(
+        &mut self,
+        word: OsString,
+        rest: &mut dyn Iterator<Item = OsString>,
+    ) -> Result<(), String> {
+        let text = word.to_str().unwrap_or_default();
+        match text {
+            "--json" => self.json = true,
+            "--all-rights" => self.all_rights = true,
+            "-h" | "--help" => self.asked = Some(Command::Help),
+            "-V" | "--version" => self.asked = Some(Command::Version),
+            "--color" => {
+                let when = rest.next().ok_or("--color needs always, never or auto")?;
+                self.color = Some(Color::parse(&when.to_string_lossy())?);
+            }
+            // A single dash is standard input.
+            _ if text.starts_with('-') && text != "-" => match text.strip_prefix("--color=") {
+                Some(when) => self.color = Some(Color::parse(when)?),
+                None => return Err(format!("there is no option `{text}`")),
+            },
+            _ => self.plain.push(word),
+        }
+        Ok(())
+    }
+
+    fn options(self) -> Result<Options, String> {
+        let command = match self.asked {
+            Some(asked) => asked,
+            None => command(&self.plain)?,
+        };
+        if self.all_rights && matches!(command, Command::Run(_)) {
+            return Err("--all-rights is for explain and demo".to_owned());
+        }
+        Ok(Options {
+            command,
+            json: self.json,
+            all_rights: self.all_rights,
+            color: self.color.unwrap_or_default(),
+        })
+    }
+}
+
+fn command(plain: &[OsString]) -> Result<Command, String> {
+    let Some((name, rest)) = plain.split_first() else {
+        return Err("a command is missing: run, explain or demo".to_owned());
+    };
+    let file = |make: fn(OsString) -> Command| match rest {
+        [file] => Ok(make(file.clone())),
+        [] => Err(format!("{} needs a FILE", name.to_string_lossy())),
+        [_, more, ..] => Err(too_many(more)),
+    };
+    match (name.to_str(), rest) {
+        (Some("run"), _) => file(Command::Run),
+        (Some("explain"), _) => file(Command::Explain),
+        (Some("demo"), []) => Ok(Command::Demo),
+        (Some("demo"), [more, ..]) => Err(too_many(more)),
+        _ => Err(format!(
+            "there is no command `{}`: the commands are run, explain and demo",
+            name.to_string_lossy()
+        )),
+    }
+}
+
+fn too_many(word: &OsStr) -> String {
+    format!("`{}` is one word too many", word.to_string_lossy())
+}
+
+#[cfg(test)]
+mod tests {
+    use super::*;
+
+    fn read(line: &str) -> Result<Options, String> {
+        parse(line.split_whitespace().map(OsString::from))
+    }
+
+    #[test]
+    fn options_stand_anywhere() {
+        let options = Options {
+            command: Command::Explain("f".into()),
+            json: true,
+            all_rights: true,
+            color: Color::Never,
+        };
+        for line in [
+            "explain f --json --all-rights --color never",
+            "--json --color=never explain --all-rights f",
+            "--json --color=never --all-rights -- explain f",
+        ] {
+            assert_eq!(read(line).as_ref(), Ok(&options), "{line}");
+        }
+    }
+
+    #[test]
+    fn files_may_look_like_options() {
+        assert_eq!(read("run -").unwrap().command, Command::Run("-".into()));
+        assert_eq!(
+            read("run -- -f").unwrap().command,
+            Command::Run("-f".into())
+        );
+    }
+
+    #[test]
+    fn wrong_words_are_refused() {
+        for line in [
+            "",
+            "run",
+            "explain",
+            "walk",
+            "run a b",
+            "demo a",
+            "run --fast a",
+            "run a --color",
+            "run a --color blue",
+            "run a --color=",
+            "run --all-rights a",
+            "-j",
+        ] {
+            assert!(read(line).is_err(), "{line}");
+        }
+    }
+
+    #[test]
+    fn help_needs_nothing_else() {
+        assert_eq!(read("run --help").unwrap().command, Command::Help);
+        assert_eq!(read("-V").unwrap().command, Command::Version);
+    }
+}

@@ -1,0 +1,76 @@
+//! The text of `--help`.
+
+pub const VERSION: &str = concat!("skein ", env!("CARGO_PKG_VERSION"), "\n");
+
+pub const USAGE: &str = "\
+usage: skein run [--json] [--color WHEN] FILE
+       skein explain [--json] [--all-rights] [--color WHEN] FILE
+       skein demo [--json] [--all-rights] [--color WHEN]
+       skein --help | --version
+";
+
+/// What stands below the usage in `--help`.
+pub const HELP: &str = "
+Skein plays scenarios on Skeinrabbit, a file broker that answers as Linux's Landlock would. A scenario
+is a text file with one call to a line: it builds a file tree, sandboxes threads, and asks what they
+may do. FILE may be - for standard input.
+
+Commands
+  run      plays FILE and prints each call with its answer: 0, the number of what was made (new 5), or
+           the error (EACCES). An answer other than the line expects (=> ANSWER) is marked.
+  explain  plays FILE without printing it, then draws the tree it leaves, with what each thread may do
+           at each entry and port, asked of the broker right by right.
+  demo     shows document 01's worked tree as explain does, and plays its worked cases.
+
+Options
+  --json        one JSON document instead of text; docs/SCENARIO.md lists its fields
+  --all-rights  a column for each of the 16 rights, not only for those that some layer handles
+  --color WHEN  always, never or auto: where output is a terminal and NO_COLOR is not set (default)
+  -h, --help    this text
+  -V, --version the version
+
+Format (in full: docs/SCENARIO.md)
+  CALL ARGUMENT .. [-> NAME] [=> ANSWER]        # a comment runs to the end of the line
+
+  -> NAME binds the number of what the call makes; => ANSWER says what it must answer: a number,
+  new N, an error's name (EACCES) or its negated number (-13). Tables start fresh at level 6. A number
+  is decimal or hexadecimal (0x1f). An entry, ruleset or thread is a number or a bound name; root is
+  entry 0, main is thread 0.
+
+    fresh LEVEL                                 create THREAD DIRECTORY KIND
+    create_ruleset [fs=RIGHTS] [net=RIGHTS]     remove THREAD ENTRY
+      [scope=RIGHTS] [size=N] [flags=N]         link THREAD SOURCE DIRECTORY
+    create_ruleset hex=BYTES [flags=N]          rename THREAD SOURCE DIRECTORY [ENTRY]
+    close_ruleset RULESET                       exchange THREAD SOURCE DIRECTORY ENTRY
+    add_path_rule RULESET ENTRY RIGHTS [FLAGS]  access THREAD ENTRY RIGHTS
+    add_port_rule RULESET PORT RIGHTS [FLAGS]   port THREAD PORT RIGHTS
+    restrict THREAD RULESET [FLAGS]             clone THREAD
+    layer_rules LAYER                           set_no_new_privs THREAD
+    poke TABLE CELL VALUE                       set_admin THREAD ON
+
+  KIND: regular directory character block fifo socket symlink, or a number. ON: on, off or a number.
+  TABLE: system entries rulesets layers pool threads.
+
+Rights: a number, none, or names joined by + in any letter case
+  files   execute write_file read_file read_dir remove_dir remove_file make_char make_dir make_reg
+          make_sock make_fifo make_block make_sym refer truncate ioctl_dev       (bits 0 to 15)
+  ports   bind_tcp connect_tcp                                                   (bits 0 and 1)
+  scopes  abstract_unix_socket signal                                            (bits 0 and 1)
+
+Exit codes
+  0   every answer is as its line expects
+  1   some answer differs from what its line expects
+  2   bad input: FILE:LINE: what was found; what was expected
+  3   FILE cannot be read, or the output cannot be written
+  64  wrong usage
+
+Example: a thread that may read a folder cannot write in it
+  create main root directory -> docs            => new 1
+  create main docs regular -> page              => new 2
+  create_ruleset fs=read_file+write_file -> rs  => new 0
+  add_path_rule rs docs read_file               => 0
+  set_no_new_privs main                         => 0
+  restrict main rs                              => 0
+  access main page read_file                    => 0
+  access main page write_file                   => EACCES
+";

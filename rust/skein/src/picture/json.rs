@@ -1,0 +1,94 @@
+//! The picture as JSON.
+use super::{Held, Node, Picture, PortView, ThreadView};
+use crate::json::Json;
+use crate::transcript::rights_json;
+use skeinrabbit::{Entry, Level};
+
+/// The members of the JSON document of `skein explain`; no entries and threads where the tables are not sound.
+pub fn json(file: &str, level: Level, picture: Option<&Picture>) -> Json {
+    let nodes = picture.map_or(&[][..], |picture| &picture.nodes);
+    let threads = picture.map_or(&[][..], |picture| &picture.threads);
+    let columns = picture.map(|picture| picture.columns).unwrap_or_default();
+    Json::Object(vec![
+        ("command", Json::text("explain")),
+        ("file", Json::text(file)),
+        ("sound", Json::Bool(picture.is_some())),
+        ("level", Json::Number(level.number())),
+        ("rights", rights_json(columns.iter())),
+        ("entries", Json::list(nodes, node_json)),
+        (
+            "threads",
+            Json::list(threads, |view| thread_json(view, nodes)),
+        ),
+    ])
+}
+
+fn name_json(name: &Option<String>) -> Json {
+    Json::option(name.as_ref(), Json::text)
+}
+
+fn node_json(node: &Node) -> Json {
+    let above = (node.row.entry != Entry::ROOT).then_some(node.row.parent);
+    Json::Object(vec![
+        ("entry", Json::Number(node.row.entry.number())),
+        ("name", name_json(&node.name)),
+        ("kind", Json::text(node.row.kind.to_string())),
+        (
+            "parent",
+            Json::option(above, |parent| Json::Number(parent.number())),
+        ),
+        ("object", Json::Number(node.row.object)),
+        ("links", Json::count(node.links)),
+    ])
+}
+
+fn thread_json(view: &ThreadView, nodes: &[Node]) -> Json {
+    let entries = nodes.iter().zip(&view.entries);
+    Json::Object(vec![
+        ("thread", Json::Number(view.row.thread.number())),
+        ("name", name_json(&view.name)),
+        (
+            "layers",
+            Json::list(&view.layers, |layer| Json::Number(layer.number())),
+        ),
+        ("no_new_privs", Json::Bool(view.row.no_new_privs)),
+        ("admin", Json::Bool(view.row.admin)),
+        (
+            "access",
+            Json::list(entries, |(node, held)| {
+                let Held { granted, denied } = *held;
+                held_json(
+                    "entry",
+                    Json::Number(node.row.entry.number()),
+                    granted.iter(),
+                    denied.iter(),
+                )
+            }),
+        ),
+        ("ports", Json::list(&view.ports, port_json)),
+    ])
+}
+
+fn port_json(at: &PortView) -> Json {
+    let Held { granted, denied } = at.held;
+    held_json(
+        "port",
+        Json::option(at.port, Json::Number),
+        granted.iter(),
+        denied.iter(),
+    )
+}
+
+/// What is granted and denied at something.
+fn held_json<R: ToString>(
+    key: &'static str,
+    number: Json,
+    granted: impl Iterator<Item = R>,
+    denied: impl Iterator<Item = R>,
+) -> Json {
+    Json::Object(vec![
+        (key, number),
+        ("granted", rights_json(granted)),
+        ("denied", rights_json(denied)),
+    ])
+}

@@ -1,0 +1,149 @@
+//! What each thread may do at each entry and port, asked of the core.
+mod json;
+mod text;
+mod tree;
+
+pub use json::json;
+pub use text::text;
+pub use tree::Node;
+
+use crate::play::Player;
+use crate::scenario::Space;
+use skeinrabbit::{EntryRow, Layer, PortRights, Rights, Rule, Tables, Thread, ThreadRow};
+use std::collections::BTreeSet;
+
+/// The tree and what each thread may do with it.
+pub struct Picture {
+    /// The rights that are shown.
+    pub columns: Rights,
+    /// The entries, each directory before what is in it.
+    pub nodes: Vec<Node>,
+    pub threads: Vec<ThreadView>,
+}
+
+/// What a thread may do.
+pub struct ThreadView {
+    pub row: ThreadRow,
+    pub name: Option<String>,
+    /// Its domain, oldest layer first.
+    pub layers: Vec<Layer>,
+    /// For each node, in the same order.
+    pub entries: Vec<Held<Rights>>,
+    pub ports: Vec<PortView>,
+}
+
+/// What is granted and what is denied, of what was asked.
+#[derive(Clone, Copy, Default)]
+pub struct Held<R> {
+    pub granted: R,
+    pub denied: R,
+}
+
+/// What a thread may do at a port, or at any port that no rule names.
+pub struct PortView {
+    pub port: Option<u64>,
+    pub held: Held<PortRights>,
+}
+
+impl Picture {
+    /// Asks the core; none where the tables are not sound. Shows all 16 rights, or those that some layer handles.
+    pub fn ask(player: &mut Player, all_rights: bool) -> Option<Picture> {
+        if !player.tables.is_sound() {
+            return None;
+        }
+        let columns = if all_rights {
+            Rights::ALL
+        } else {
+            handled(&player.tables)
+        };
+        let nodes = tree::nodes(&player.tables, &player.names);
+        let ports = named_ports(&mut player.tables);
+        let rows: Vec<ThreadRow> = player.tables.threads().collect();
+        let threads = rows.into_iter().map(|row| ThreadView {
+            row,
+            name: player
+                .names
+                .name(Space::Thread, row.thread.number())
+                .map(str::to_owned),
+            layers: domain(&player.tables, row.thread),
+            entries: nodes
+                .iter()
+                .map(|node| held_at(&mut player.tables, row.thread, node.row, columns))
+                .collect(),
+            ports: port_views(&mut player.tables, row.thread, &ports),
+        });
+        let threads = threads.collect();
+        Some(Picture {
+            columns,
+            nodes,
+            threads,
+        })
+    }
+}
+
+/// The rights that some layer handles, REFER among them where there is a layer.
+fn handled(tables: &Tables) -> Rights {
+    tables.layers().fold(Rights::NONE, |rights, row| {
+        rights | row.attribute.fs | Rights::REFER
+    })
+}
+
+fn domain(tables: &Tables, thread: Thread) -> Vec<Layer> {
+    let mut layers: Vec<Layer> = tables.domain(thread).map(|row| row.layer).collect();
+    layers.reverse();
+    layers
+}
+
+/// The rights that a thread has at an entry. They are asked one by one only where not all are granted.
+fn held_at(tables: &mut Tables, thread: Thread, row: EntryRow, columns: Rights) -> Held<Rights> {
+    let asked = columns & row.kind.rights();
+    let mut held = Held::default();
+    if tables.access(thread, row.entry, asked).is_ok() {
+        held.granted = asked;
+        return held;
+    }
+    for right in asked.iter() {
+        match tables.access(thread, row.entry, right) {
+            Ok(()) => held.granted |= right,
+            Err(_) => held.denied |= right,
+        }
+    }
+    held
+}
+
+/// The ports that a layer's rule names.
+fn named_ports(tables: &mut Tables) -> BTreeSet<u64> {
+    let layers: Vec<Layer> = tables.layers().map(|row| row.layer).collect();
+    let mut ports = BTreeSet::new();
+    for layer in layers {
+        for rule in tables.layer_rules(layer).into_iter().flatten() {
+            if let Rule::Port { port, .. } = rule {
+                ports.insert(port);
+            }
+        }
+    }
+    ports
+}
+
+fn port_views(tables: &mut Tables, thread: Thread, named: &BTreeSet<u64>) -> Vec<PortView> {
+    let other = (0..=65_535).find(|port| !named.contains(port));
+    let named = named.iter().map(|port| (Some(*port), *port));
+    named
+        .chain(other.map(|port| (None, port)))
+        .map(|(shown, port)| PortView {
+            port: shown,
+            held: held_at_port(tables, thread, port),
+        })
+        .collect()
+}
+
+fn held_at_port(tables: &mut Tables, thread: Thread, port: u64) -> Held<PortRights> {
+    let mut held = Held::default();
+    for right in PortRights::ALL.iter() {
+        match tables.port(thread, port, right) {
+            Ok(()) => held.granted |= right,
+            Err(_) => held.denied |= right,
+        }
+    }
+    held
+}

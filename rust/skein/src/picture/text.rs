@@ -1,0 +1,209 @@
+//! The picture in plain text, at most 100 columns wide.
+use super::{Held, Node, Picture, ThreadView};
+use crate::paint::Paint;
+use skeinrabbit::{PortRights, Rights};
+
+/// The widest line.
+const WIDEST: usize = 100;
+/// The widest name of a thread.
+const WIDEST_THREAD: usize = 40;
+
+/// The tree with a matrix of rights for each thread, then the ports.
+pub fn text(picture: &Picture, paint: Paint) -> String {
+    let left = Left::of(picture);
+    let mut out = String::new();
+    if picture.columns.is_empty() {
+        out.push_str(&left.matrix(picture, None, paint));
+        out.push_str("\nNo layer handles a right: every thread may do everything.\n");
+    } else {
+        for view in &picture.threads {
+            out.push_str(&format!("{}\n", paint.heading(&thread_line(view))));
+            out.push_str(&left.matrix(picture, Some(view), paint));
+            out.push('\n');
+        }
+        out.push_str("+ granted   - denied   blank: not a right of this kind of entry\n");
+    }
+    if picture.nodes.iter().any(|node| node.links > 1) {
+        out.push_str("×N: an object with N entries (hard links)\n");
+    }
+    out.push_str(&ports(picture, paint));
+    out
+}
+
+/// A thread with its layers and marks.
+fn thread_line(view: &ThreadView) -> String {
+    let layers: Vec<String> = view.layers.iter().map(ToString::to_string).collect();
+    let layers = match layers.len() {
+        0 => "no layer".to_owned(),
+        1 => format!("layer {}", layers.concat()),
+        _ => format!("layers {}, oldest first", layers.join(" ")),
+    };
+    let mut rest = layers;
+    for (set, mark) in [
+        (view.row.no_new_privs, "no_new_privs"),
+        (view.row.admin, "admin"),
+    ] {
+        if set {
+            rest.push_str(&format!("; {mark}"));
+        }
+    }
+    let line = format!("thread {}: {rest}", label(view));
+    if line.chars().count() <= WIDEST {
+        line
+    } else {
+        format!("thread {}:\n  {rest}", label(view))
+    }
+}
+
+/// A thread's name, or else its number.
+fn label(view: &ThreadView) -> String {
+    let number = || view.row.thread.to_string();
+    cut(&view.name.clone().unwrap_or_else(number), WIDEST_THREAD)
+}
+
+/// Text cut to a width.
+fn cut(text: &str, widest: usize) -> String {
+    if text.chars().count() <= widest {
+        return text.to_owned();
+    }
+    let mut short: String = text.chars().take(widest.saturating_sub(1)).collect();
+    short.push('…');
+    short
+}
+
+/// An entry's name or number, behind the lines that lead to it or, where these are too long, its depth.
+fn entry_label(node: &Node, widest: usize) -> String {
+    let number = || node.row.entry.to_string();
+    let name = node.name.clone().unwrap_or_else(number);
+    let drawn = format!("{}{name}", node.branch);
+    if drawn.chars().count() <= widest {
+        drawn
+    } else {
+        cut(&format!("…depth {} {name}", node.depth), widest)
+    }
+}
+
+fn object_label(node: &Node) -> String {
+    match node.links {
+        1 => node.row.object.to_string(),
+        links => format!("{} ×{links}", node.row.object),
+    }
+}
+
+/// The widths of the columns left of the matrix.
+struct Left {
+    tree: usize,
+    object: usize,
+}
+
+impl Left {
+    fn of(picture: &Picture) -> Left {
+        let widest = |widths: &mut dyn Iterator<Item = usize>| widths.max().unwrap_or(0);
+        let mut objects = picture
+            .nodes
+            .iter()
+            .map(|node| object_label(node).chars().count());
+        let object = widest(&mut objects).max("object".len());
+        let stairs = picture.columns.iter().enumerate();
+        let matrix = widest(&mut stairs.map(|(place, right)| 2 * place + right.to_string().len()));
+        // What a line leaves for the tree, between number, kind and the blanks.
+        let without_tree = Left { tree: 0, object }
+            .line("", "", "", "")
+            .chars()
+            .count()
+            + 2
+            + matrix;
+        let room = WIDEST.saturating_sub(without_tree);
+        let mut trees = picture
+            .nodes
+            .iter()
+            .map(|node| entry_label(node, room).chars().count());
+        let tree = widest(&mut trees).max("entry".len());
+        Left { tree, object }
+    }
+
+    fn line(&self, entry: &str, number: &str, kind: &str, object: &str) -> String {
+        let (tree, width) = (self.tree, self.object);
+        format!("{entry:<tree$}  {number:>4}  {kind:<9}  {object:<width$}")
+    }
+
+    /// The names of the rights as stairs, then a line for each entry.
+    fn matrix(&self, picture: &Picture, view: Option<&ThreadView>, paint: Paint) -> String {
+        let rights: Vec<Rights> = picture.columns.iter().collect();
+        let blank = self.line("", "", "", "");
+        let mut out = String::new();
+        for (place, right) in rights.iter().enumerate() {
+            out.push_str(&format!("{blank}  {}{right}\n", "│ ".repeat(place)));
+        }
+        let heading = self.line("entry", "no", "kind", "object");
+        push_trimmed(
+            &mut out,
+            &format!("{heading}  {}", "│ ".repeat(rights.len())),
+        );
+        for (place, node) in picture.nodes.iter().enumerate() {
+            let number = node.row.entry.to_string();
+            let kind = node.row.kind.to_string();
+            let entry = self.line(
+                &entry_label(node, self.tree),
+                &number,
+                &kind,
+                &object_label(node),
+            );
+            let held = view.and_then(|view| view.entries.get(place));
+            let marks: Vec<String> = held
+                .map(|held| {
+                    rights
+                        .iter()
+                        .map(|right| mark(held, *right, paint))
+                        .collect()
+                })
+                .unwrap_or_default();
+            push_trimmed(&mut out, &format!("{entry}  {}", marks.join(" ")));
+        }
+        out
+    }
+}
+
+fn push_trimmed(out: &mut String, line: &str) {
+    out.push_str(line.trim_end());
+    out.push('\n');
+}
+
+fn mark(held: &Held<Rights>, right: Rights, paint: Paint) -> String {
+    if held.granted.contains(right) {
+        paint.granted("+")
+    } else if held.denied.contains(right) {
+        paint.denied("-")
+    } else {
+        " ".to_owned()
+    }
+}
+
+/// For each thread the ports that a rule names, and all others as one.
+fn ports(picture: &Picture, paint: Paint) -> String {
+    let widths = picture
+        .threads
+        .iter()
+        .map(|view| label(view).chars().count());
+    let width = widths.max().unwrap_or(0).max("ports of".len());
+    let heading = format!("{:<width$}  port   bind_tcp  connect_tcp", "ports of");
+    let mut out = format!("\n{}\n", paint.heading(&heading));
+    for view in &picture.threads {
+        for at in &view.ports {
+            let port = at.port.map_or("other".to_owned(), |port| port.to_string());
+            let sign = |right: PortRights| {
+                if at.held.granted.contains(right) {
+                    paint.granted("+")
+                } else {
+                    paint.denied("-")
+                }
+            };
+            let (bind, connect) = (sign(PortRights::BIND_TCP), sign(PortRights::CONNECT_TCP));
+            let label = label(view);
+            out.push_str(&format!(
+                "{label:<width$}  {port:<5}  {bind}         {connect}\n"
+            ));
+        }
+    }
+    out
+}

@@ -1,0 +1,254 @@
+//! Plays a scenario on the broker.
+use crate::scenario::{
+    Answer, Bad, BadLine, Call, Masks, Move, Names, Operand, RulesetBytes, RulesetCall, Scenario,
+    Space, Statement, ThreadCall, TreeCall,
+};
+use skeinrabbit::{Cells, Entry, Errno, Layer, Level, Rule, Ruleset, Table, Tables, Thread};
+
+/// Tables and names as the lines so far left them.
+pub struct Player {
+    pub tables: Tables,
+    pub names: Names,
+}
+
+/// A line that was played.
+pub struct Played<'s> {
+    pub statement: &'s Statement,
+    pub answer: Answer,
+    /// The rules that `layer_rules` gave.
+    pub rules: Vec<Rule>,
+}
+
+impl Played<'_> {
+    /// Whether the answer is another than the line expects.
+    pub fn differs(&self) -> bool {
+        let expected = self.statement.expected;
+        expected.is_some_and(|expected| !expected.is_met_by(self.answer))
+    }
+}
+
+/// A whole scenario, played.
+pub struct Play<'s> {
+    pub player: Player,
+    pub played: Vec<Played<'s>>,
+    /// The line that ended the play early: it uses a name whose call was refused.
+    pub stopped: Option<BadLine>,
+}
+
+impl Play<'_> {
+    pub fn expectations(&self) -> usize {
+        let expects = |played: &&Played| played.statement.expected.is_some();
+        self.played.iter().filter(expects).count()
+    }
+
+    pub fn differing(&self) -> usize {
+        self.played.iter().filter(|played| played.differs()).count()
+    }
+}
+
+/// Plays a scenario from fresh tables at level 6.
+pub fn play(scenario: &Scenario) -> Play<'_> {
+    let mut player = Player::new();
+    let mut played = Vec::new();
+    let mut stopped = None;
+    for statement in &scenario.statements {
+        match player.play(statement) {
+            Ok(line) => played.push(line),
+            Err(bad) => {
+                let line = statement.line;
+                stopped = Some(BadLine { line, bad });
+                break;
+            }
+        }
+    }
+    Play {
+        player,
+        played,
+        stopped,
+    }
+}
+
+/// A success that makes nothing, or a refusal.
+fn done(result: Result<(), Errno>) -> Answer {
+    result.map_or_else(Answer::Refused, |()| Answer::Done)
+}
+
+/// A success that makes something, or a refusal.
+fn new(result: Result<u64, Errno>) -> Answer {
+    result.map_or_else(Answer::Refused, Answer::New)
+}
+
+impl Player {
+    fn new() -> Self {
+        let mut tables = Tables::from_cells(Cells::zeroed());
+        // The level is one that there is; were it refused, every line would show EIO.
+        let _ = tables.fresh(Level::LATEST);
+        let names = Names::default();
+        Self { tables, names }
+    }
+
+    fn play<'s>(&mut self, statement: &'s Statement) -> Result<Played<'s>, Bad> {
+        let mut rules = Vec::new();
+        let answer = match &statement.call {
+            Call::Fresh { level } => done(self.tables.fresh(*level)),
+            Call::Ruleset(call) => self.ruleset_call(call)?,
+            Call::LayerRules { layer } => self.layer_rules(*layer, &mut rules),
+            Call::Thread { thread, call } => self.thread_call(thread, call)?,
+            Call::Tree { thread, call } => self.tree_call(thread, call)?,
+            Call::Poke { table, cell, value } => self.poke(*table, *cell, *value),
+        };
+        self.names.forget_gone(&self.tables);
+        if let (Answer::New(number), Some((space, name))) = (answer, &statement.binds) {
+            self.names.bind(*space, name, number);
+        }
+        Ok(Played {
+            statement,
+            answer,
+            rules,
+        })
+    }
+
+    fn ruleset_call(&mut self, call: &RulesetCall) -> Result<Answer, Bad> {
+        Ok(match call {
+            RulesetCall::Create { bytes, flags } => self.create_ruleset(bytes, *flags),
+            RulesetCall::Close { ruleset } => {
+                let ruleset = self.ruleset(ruleset)?;
+                done(self.tables.close_ruleset(ruleset))
+            }
+            RulesetCall::AddPath {
+                ruleset,
+                entry,
+                rights,
+                flags,
+            } => {
+                let (ruleset, entry) = (self.ruleset(ruleset)?, self.entry(entry)?);
+                done(self.tables.add_path_rule(ruleset, entry, *rights, *flags))
+            }
+            RulesetCall::AddPort {
+                ruleset,
+                port,
+                rights,
+                flags,
+            } => {
+                let ruleset = self.ruleset(ruleset)?;
+                done(self.tables.add_port_rule(ruleset, *port, *rights, *flags))
+            }
+            RulesetCall::Restrict {
+                thread,
+                ruleset,
+                flags,
+            } => {
+                let (thread, ruleset) = (self.thread(thread)?, self.ruleset(ruleset)?);
+                done(self.tables.restrict(thread, ruleset, *flags))
+            }
+        })
+    }
+
+    fn create_ruleset(&mut self, bytes: &RulesetBytes, flags: u64) -> Answer {
+        let ruleset = match bytes {
+            RulesetBytes::Hex(bytes) => self.tables.create_ruleset(bytes, flags),
+            RulesetBytes::Masks(masks) => {
+                let bytes = attribute(masks, self.tables.level());
+                self.tables.create_ruleset(&bytes, flags)
+            }
+        };
+        new(ruleset.map(Ruleset::number))
+    }
+
+    fn layer_rules(&mut self, layer: Layer, rules: &mut Vec<Rule>) -> Answer {
+        let part = self.tables.layer_rules(layer);
+        done(part.map(|part| rules.extend(part)))
+    }
+
+    fn thread_call(&mut self, thread: &Operand, call: &ThreadCall) -> Result<Answer, Bad> {
+        let thread = self.thread(thread)?;
+        Ok(match call {
+            ThreadCall::Clone => new(self.tables.clone_thread(thread).map(Thread::number)),
+            ThreadCall::SetNoNewPrivs => done(self.tables.set_no_new_privs(thread)),
+            ThreadCall::SetAdmin { on } => done(self.tables.set_admin(thread, *on)),
+            ThreadCall::Access { entry, rights } => {
+                let entry = self.entry(entry)?;
+                done(self.tables.access(thread, entry, *rights))
+            }
+            ThreadCall::Port { port, rights } => done(self.tables.port(thread, *port, *rights)),
+        })
+    }
+
+    fn tree_call(&mut self, thread: &Operand, call: &TreeCall) -> Result<Answer, Bad> {
+        let thread = self.thread(thread)?;
+        Ok(match call {
+            TreeCall::Create { directory, kind } => {
+                let directory = self.entry(directory)?;
+                let entry = self.tables.create(thread, directory, *kind);
+                new(entry.map(Entry::number))
+            }
+            TreeCall::Remove { entry } => {
+                let entry = self.entry(entry)?;
+                done(self.tables.remove(thread, entry))
+            }
+            TreeCall::Link(moved) => {
+                let (source, directory) = self.ends(moved)?;
+                let entry = self.tables.link(thread, source, directory);
+                new(entry.map(Entry::number))
+            }
+            TreeCall::Rename(moved, replaced) => {
+                let (source, directory) = self.ends(moved)?;
+                let replaced = replaced
+                    .as_ref()
+                    .map(|entry| self.entry(entry))
+                    .transpose()?;
+                done(self.tables.rename(thread, source, directory, replaced))
+            }
+            TreeCall::Exchange(moved, entry) => {
+                let (source, directory) = self.ends(moved)?;
+                let entry = self.entry(entry)?;
+                done(self.tables.exchange(thread, source, directory, entry))
+            }
+        })
+    }
+
+    fn ends(&self, moved: &Move) -> Result<(Entry, Entry), Bad> {
+        Ok((self.entry(&moved.source)?, self.entry(&moved.directory)?))
+    }
+
+    fn poke(&mut self, table: Table, cell: usize, value: u64) -> Answer {
+        let mut cells = self.tables.cells().clone();
+        if let Some(cell) = cells.table_mut(table).get_mut(cell) {
+            *cell = value;
+        }
+        self.tables = Tables::from_cells(cells);
+        Answer::Done
+    }
+
+    fn entry(&self, operand: &Operand) -> Result<Entry, Bad> {
+        self.number(Space::Entry, operand).map(Entry::new)
+    }
+
+    fn ruleset(&self, operand: &Operand) -> Result<Ruleset, Bad> {
+        self.number(Space::Ruleset, operand).map(Ruleset::new)
+    }
+
+    fn thread(&self, operand: &Operand) -> Result<Thread, Bad> {
+        self.number(Space::Thread, operand).map(Thread::new)
+    }
+
+    fn number(&self, space: Space, operand: &Operand) -> Result<u64, Bad> {
+        self.names.number(space, operand).map_err(|name| {
+            let noun = space.noun();
+            let found = format!("the {noun} `{name}`, whose call was refused");
+            Bad::new(found, "a name that a successful call bound")
+        })
+    }
+}
+
+/// The bytes of an attribute given by its masks. Any size above 4,096 is answered alike, so none is made much longer.
+fn attribute(masks: &Masks, level: Level) -> Vec<u8> {
+    const LONGEST: usize = 4097;
+    let size = match masks.size {
+        Some(size) => usize::try_from(size).unwrap_or(LONGEST).min(LONGEST),
+        None => level.known_size(),
+    };
+    let mut bytes = masks.attribute.to_bytes().to_vec();
+    bytes.resize(size, 0);
+    bytes
+}

@@ -1,0 +1,112 @@
+//! The words of a line, taken one after another.
+use super::names::{is_name, Declared, Operand, Space};
+use super::Bad;
+use skeinrabbit::{parse_number, ParseError};
+use std::str::FromStr;
+
+/// The words of a call that were not yet taken.
+pub struct Arguments<'a> {
+    words: std::slice::Iter<'a, &'a str>,
+    declared: &'a Declared,
+    /// The call's arguments as `--help` has them, for messages.
+    usage: &'static str,
+}
+
+impl<'a> Arguments<'a> {
+    pub fn new(words: &'a [&'a str], declared: &'a Declared) -> Self {
+        Self {
+            words: words.iter(),
+            declared,
+            usage: "a call",
+        }
+    }
+
+    pub fn set_usage(&mut self, usage: &'static str) {
+        self.usage = usage;
+    }
+
+    /// The next word, if there is one.
+    pub fn next(&mut self) -> Option<&'a str> {
+        self.words.next().copied()
+    }
+
+    /// The next word.
+    pub fn word(&mut self) -> Result<&'a str, Bad> {
+        let usage = self.usage;
+        self.next()
+            .ok_or_else(|| Bad::new("too few words", format!("`{usage}`")))
+    }
+
+    /// That no word is left.
+    pub fn end(&mut self) -> Result<(), Bad> {
+        match self.next() {
+            Some(word) => Err(Bad::word(word, format!("no more than `{}`", self.usage))),
+            None => Ok(()),
+        }
+    }
+
+    pub fn number(&mut self, what: &str) -> Result<u64, Bad> {
+        number(self.word()?, what)
+    }
+
+    /// A number, or 0 where no word is left.
+    pub fn flags(&mut self) -> Result<u64, Bad> {
+        self.next().map_or(Ok(0), |word| number(word, "flags"))
+    }
+
+    /// Something that is written as its type says.
+    pub fn value<T: FromStr<Err = ParseError>>(&mut self) -> Result<T, Bad> {
+        value(self.word()?)
+    }
+
+    pub fn entry(&mut self) -> Result<Operand, Bad> {
+        let word = self.word()?;
+        self.operand(Space::Entry, word)
+    }
+
+    pub fn optional_entry(&mut self) -> Result<Option<Operand>, Bad> {
+        let word = self.next();
+        word.map(|word| self.operand(Space::Entry, word))
+            .transpose()
+    }
+
+    pub fn ruleset(&mut self) -> Result<Operand, Bad> {
+        let word = self.word()?;
+        self.operand(Space::Ruleset, word)
+    }
+
+    pub fn thread(&mut self) -> Result<Operand, Bad> {
+        let word = self.word()?;
+        self.operand(Space::Thread, word)
+    }
+
+    fn operand(&self, space: Space, word: &str) -> Result<Operand, Bad> {
+        if let Some(number) = parse_number(word) {
+            return Ok(Operand::Number(number));
+        }
+        if self.declared.has(space, word) {
+            return Ok(Operand::Name(word.to_owned()));
+        }
+        let noun = space.noun();
+        let expected = if is_name(word) {
+            format!("the {noun}'s number, or a name that a line above binds to one")
+        } else {
+            format!("the {noun}'s number or name")
+        };
+        Err(Bad::word(word, expected))
+    }
+}
+
+/// A word as a number.
+pub fn number(word: &str, what: &str) -> Result<u64, Bad> {
+    parse_number(word).ok_or_else(|| {
+        let expected = format!("{what}: a number, decimal or hexadecimal (0x1f), below 2^64");
+        Bad::word(word, expected)
+    })
+}
+
+/// A word as something that is written as its type says.
+pub fn value<T: FromStr<Err = ParseError>>(word: &str) -> Result<T, Bad> {
+    word.parse()
+        .map_err(|error: ParseError| Bad::word(word, error.expected))
+}

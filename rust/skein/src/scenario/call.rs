@@ -1,0 +1,98 @@
+//! The calls and their arguments.
+use super::names::Operand;
+use skeinrabbit::{Attribute, Kind, Layer, Level, PortRights, Rights, Table};
+
+/// A call with its arguments.
+#[derive(Debug, PartialEq, Eq)]
+pub enum Call {
+    Fresh {
+        level: Level,
+    },
+    Ruleset(RulesetCall),
+    LayerRules {
+        layer: Layer,
+    },
+    Thread {
+        thread: Operand,
+        call: ThreadCall,
+    },
+    Tree {
+        thread: Operand,
+        call: TreeCall,
+    },
+    Poke {
+        table: Table,
+        cell: usize,
+        value: u64,
+    },
+}
+
+/// A call about a ruleset.
+#[derive(Debug, PartialEq, Eq)]
+pub enum RulesetCall {
+    Create {
+        bytes: RulesetBytes,
+        flags: u64,
+    },
+    Close {
+        ruleset: Operand,
+    },
+    AddPath {
+        ruleset: Operand,
+        entry: Operand,
+        rights: Rights,
+        flags: u64,
+    },
+    AddPort {
+        ruleset: Operand,
+        port: u64,
+        rights: PortRights,
+        flags: u64,
+    },
+    Restrict {
+        thread: Operand,
+        ruleset: Operand,
+        flags: u64,
+    },
+}
+
+/// A thread's call that leaves the tree alone.
+#[derive(Debug, PartialEq, Eq)]
+pub enum ThreadCall {
+    Clone,
+    SetNoNewPrivs,
+    SetAdmin { on: bool },
+    Access { entry: Operand, rights: Rights },
+    Port { port: u64, rights: PortRights },
+}
+
+/// A thread's call that changes the tree.
+#[derive(Debug, PartialEq, Eq)]
+pub enum TreeCall {
+    Create { directory: Operand, kind: Kind },
+    Remove { entry: Operand },
+    Link(Move),
+    Rename(Move, Option<Operand>),
+    Exchange(Move, Operand),
+}
+
+/// From where to where.
+#[derive(Debug, PartialEq, Eq)]
+pub struct Move {
+    pub source: Operand,
+    pub directory: Operand,
+}
+
+/// How a line gives a ruleset's attribute.
+#[derive(Debug, PartialEq, Eq)]
+pub enum RulesetBytes {
+    Hex(Vec<u8>),
+    Masks(Masks),
+}
+
+/// An attribute by its masks, and its size where the line gives one.
+#[derive(Debug, Default, PartialEq, Eq)]
+pub struct Masks {
+    pub attribute: Attribute,
+    pub size: Option<u64>,
+}

@@ -1,0 +1,221 @@
+//! How each call is written.
+use super::arguments::{number, Arguments};
+use super::attribute::create_ruleset;
+use super::call::{Call, Move, RulesetCall, ThreadCall, TreeCall};
+use super::names::Space;
+use super::Bad;
+use skeinrabbit::{parse_number, Layer, Level, Table};
+
+/// A call as it is written.
+pub struct Form {
+    /// The call and its arguments.
+    usage: &'static str,
+    /// What a success makes, and so what its name stands for.
+    pub makes: Option<Space>,
+    read: Read,
+}
+
+type Read = fn(&mut Arguments) -> Result<Call, Bad>;
+
+const fn form(usage: &'static str, makes: Option<Space>, read: Read) -> Form {
+    Form { usage, makes, read }
+}
+
+const CREATE_RULESET: &str =
+    "create_ruleset [fs=RIGHTS] [net=RIGHTS] [scope=RIGHTS] [size=N] [flags=N]` \
+    or `create_ruleset hex=BYTES [flags=N]";
+
+static FORMS: [Form; 18] = [
+    form("fresh LEVEL", None, fresh),
+    form(CREATE_RULESET, Some(Space::Ruleset), create_ruleset),
+    form("close_ruleset RULESET", None, close_ruleset),
+    form(
+        "add_path_rule RULESET ENTRY RIGHTS [FLAGS]",
+        None,
+        add_path_rule,
+    ),
+    form(
+        "add_port_rule RULESET PORT RIGHTS [FLAGS]",
+        None,
+        add_port_rule,
+    ),
+    form("restrict THREAD RULESET [FLAGS]", None, restrict),
+    form("layer_rules LAYER", None, layer_rules),
+    form("clone THREAD", Some(Space::Thread), clone),
+    form("set_no_new_privs THREAD", None, set_no_new_privs),
+    form("set_admin THREAD ON", None, set_admin),
+    form("access THREAD ENTRY RIGHTS", None, access),
+    form("port THREAD PORT RIGHTS", None, port),
+    form("create THREAD DIRECTORY KIND", Some(Space::Entry), create),
+    form("remove THREAD ENTRY", None, remove),
+    form("link THREAD SOURCE DIRECTORY", Some(Space::Entry), link),
+    form("rename THREAD SOURCE DIRECTORY [ENTRY]", None, rename),
+    form("exchange THREAD SOURCE DIRECTORY ENTRY", None, exchange),
+    form("poke TABLE CELL VALUE", None, poke),
+];
+
+impl Form {
+    /// The call's name.
+    pub fn name(&self) -> &'static str {
+        self.usage.split(' ').next().unwrap_or_default()
+    }
+}
+
+/// Reads a call and its arguments.
+pub fn parse(arguments: &mut Arguments) -> Result<(&'static Form, Call), Bad> {
+    let Some(name) = arguments.next() else {
+        return Err(Bad::new("no call", "a call before `->` or `=>`"));
+    };
+    let Some(form) = FORMS.iter().find(|form| form.name() == name) else {
+        let names: Vec<&str> = FORMS.iter().map(Form::name).collect();
+        return Err(Bad::word(name, format!("a call: {}", names.join(", "))));
+    };
+    arguments.set_usage(form.usage);
+    let call = (form.read)(arguments)?;
+    arguments.end()?;
+    Ok((form, call))
+}
+
+fn fresh(arguments: &mut Arguments) -> Result<Call, Bad> {
+    let level = Level::new(arguments.number("a level")?);
+    Ok(Call::Fresh { level })
+}
+
+fn close_ruleset(arguments: &mut Arguments) -> Result<Call, Bad> {
+    let ruleset = arguments.ruleset()?;
+    Ok(Call::Ruleset(RulesetCall::Close { ruleset }))
+}
+
+fn add_path_rule(arguments: &mut Arguments) -> Result<Call, Bad> {
+    Ok(Call::Ruleset(RulesetCall::AddPath {
+        ruleset: arguments.ruleset()?,
+        entry: arguments.entry()?,
+        rights: arguments.value()?,
+        flags: arguments.flags()?,
+    }))
+}
+
+fn add_port_rule(arguments: &mut Arguments) -> Result<Call, Bad> {
+    Ok(Call::Ruleset(RulesetCall::AddPort {
+        ruleset: arguments.ruleset()?,
+        port: arguments.number("a port")?,
+        rights: arguments.value()?,
+        flags: arguments.flags()?,
+    }))
+}
+
+fn restrict(arguments: &mut Arguments) -> Result<Call, Bad> {
+    Ok(Call::Ruleset(RulesetCall::Restrict {
+        thread: arguments.thread()?,
+        ruleset: arguments.ruleset()?,
+        flags: arguments.flags()?,
+    }))
+}
+
+fn layer_rules(arguments: &mut Arguments) -> Result<Call, Bad> {
+    let layer = Layer::new(arguments.number("a layer")?);
+    Ok(Call::LayerRules { layer })
+}
+
+fn clone(arguments: &mut Arguments) -> Result<Call, Bad> {
+    let thread = arguments.thread()?;
+    let call = ThreadCall::Clone;
+    Ok(Call::Thread { thread, call })
+}
+
+fn set_no_new_privs(arguments: &mut Arguments) -> Result<Call, Bad> {
+    let thread = arguments.thread()?;
+    let call = ThreadCall::SetNoNewPrivs;
+    Ok(Call::Thread { thread, call })
+}
+
+fn set_admin(arguments: &mut Arguments) -> Result<Call, Bad> {
+    let thread = arguments.thread()?;
+    let on = match arguments.word()? {
+        "on" => true,
+        "off" => false,
+        word => {
+            let on = parse_number(word);
+            on.ok_or_else(|| Bad::word(word, "`on`, `off` or a number"))? != 0
+        }
+    };
+    let call = ThreadCall::SetAdmin { on };
+    Ok(Call::Thread { thread, call })
+}
+
+fn access(arguments: &mut Arguments) -> Result<Call, Bad> {
+    let thread = arguments.thread()?;
+    let call = ThreadCall::Access {
+        entry: arguments.entry()?,
+        rights: arguments.value()?,
+    };
+    Ok(Call::Thread { thread, call })
+}
+
+fn port(arguments: &mut Arguments) -> Result<Call, Bad> {
+    let thread = arguments.thread()?;
+    let call = ThreadCall::Port {
+        port: arguments.number("a port")?,
+        rights: arguments.value()?,
+    };
+    Ok(Call::Thread { thread, call })
+}
+
+fn create(arguments: &mut Arguments) -> Result<Call, Bad> {
+    let thread = arguments.thread()?;
+    let call = TreeCall::Create {
+        directory: arguments.entry()?,
+        kind: arguments.value()?,
+    };
+    Ok(Call::Tree { thread, call })
+}
+
+fn remove(arguments: &mut Arguments) -> Result<Call, Bad> {
+    let thread = arguments.thread()?;
+    let call = TreeCall::Remove {
+        entry: arguments.entry()?,
+    };
+    Ok(Call::Tree { thread, call })
+}
+
+fn moved(arguments: &mut Arguments) -> Result<Move, Bad> {
+    Ok(Move {
+        source: arguments.entry()?,
+        directory: arguments.entry()?,
+    })
+}
+
+fn link(arguments: &mut Arguments) -> Result<Call, Bad> {
+    let thread = arguments.thread()?;
+    let call = TreeCall::Link(moved(arguments)?);
+    Ok(Call::Tree { thread, call })
+}
+
+fn rename(arguments: &mut Arguments) -> Result<Call, Bad> {
+    let thread = arguments.thread()?;
+    let call = TreeCall::Rename(moved(arguments)?, arguments.optional_entry()?);
+    Ok(Call::Tree { thread, call })
+}
+
+fn exchange(arguments: &mut Arguments) -> Result<Call, Bad> {
+    let thread = arguments.thread()?;
+    let call = TreeCall::Exchange(moved(arguments)?, arguments.entry()?);
+    Ok(Call::Tree { thread, call })
+}
+
+fn poke(arguments: &mut Arguments) -> Result<Call, Bad> {
+    let table: Table = arguments.value()?;
+    let word = arguments.word()?;
+    let within = |cell: &usize| *cell < table.size();
+    let cell = usize::try_from(number(word, "a cell")?)
+        .ok()
+        .filter(within)
+        .ok_or_else(|| {
+            Bad::word(
+                word,
+                format!("a cell of {}, below {}", table.name(), table.size()),
+            )
+        })?;
+    let value = arguments.number("a value")?;
+    Ok(Call::Poke { table, cell, value })
+}

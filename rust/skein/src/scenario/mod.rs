@@ -1,0 +1,193 @@
+//! Scenario files: one call to a line.
+mod answer;
+mod arguments;
+mod attribute;
+mod call;
+mod forms;
+mod names;
+
+pub use answer::{Answer, Expected};
+pub use call::{Call, Masks, Move, RulesetBytes, RulesetCall, ThreadCall, TreeCall};
+pub use names::{Names, Operand, Space};
+
+use arguments::Arguments;
+use names::{is_name, Declared};
+
+/// A scenario that could be read.
+#[derive(Debug)]
+pub struct Scenario {
+    pub statements: Vec<Statement>,
+}
+
+/// A line with a call.
+#[derive(Debug)]
+pub struct Statement {
+    /// The line's number, from 1.
+    pub line: usize,
+    /// The lines of comment right above, without their marks.
+    pub heading: Vec<String>,
+    /// The call and its arguments as they were written, one blank between.
+    pub text: String,
+    /// The call's name.
+    pub name: &'static str,
+    pub call: Call,
+    /// The name to bind what the call makes to.
+    pub binds: Option<(Space, String)>,
+    pub expected: Option<Expected>,
+}
+
+/// A line that is not as the format asks.
+#[derive(Clone, Debug, PartialEq, Eq)]
+pub struct BadLine {
+    pub line: usize,
+    pub bad: Bad,
+}
+
+/// What was found and what was expected in its place.
+#[derive(Clone, Debug, PartialEq, Eq)]
+pub struct Bad {
+    pub found: String,
+    pub expected: String,
+}
+
+impl Bad {
+    pub fn new(found: impl Into<String>, expected: impl Into<String>) -> Self {
+        Self {
+            found: found.into(),
+            expected: expected.into(),
+        }
+    }
+
+    /// A word, quoted, with what is not printable escaped.
+    pub fn word(word: &str, expected: impl Into<String>) -> Self {
+        Self::new(quoted(word), expected)
+    }
+}
+
+/// A word in quotes, cut where it is very long.
+fn quoted(word: &str) -> String {
+    const LONGEST: usize = 60;
+    let mut shown: String = word
+        .chars()
+        .take(LONGEST)
+        .flat_map(char::escape_debug)
+        .collect();
+    if word.chars().nth(LONGEST).is_some() {
+        shown.push_str("..");
+    }
+    format!("`{shown}`")
+}
+
+/// Reads a scenario; answers every line that is not as the format asks where there is one.
+pub fn parse(bytes: &[u8]) -> Result<Scenario, Vec<BadLine>> {
+    let mut reader = Reader::default();
+    let mut bad_lines = Vec::new();
+    for (place, bytes) in bytes.split(|byte| *byte == b'\n').enumerate() {
+        let line = place + 1;
+        if let Err(bad) = reader.line(line, bytes) {
+            bad_lines.push(BadLine { line, bad });
+        }
+    }
+    if bad_lines.is_empty() {
+        Ok(Scenario {
+            statements: reader.statements,
+        })
+    } else {
+        Err(bad_lines)
+    }
+}
+
+/// What was read so far.
+#[derive(Default)]
+struct Reader {
+    statements: Vec<Statement>,
+    heading: Vec<String>,
+    declared: Declared,
+}
+
+impl Reader {
+    fn line(&mut self, line: usize, bytes: &[u8]) -> Result<(), Bad> {
+        let text = std::str::from_utf8(bytes.strip_suffix(b"\r").unwrap_or(bytes))
+            .map_err(|_| Bad::new("bytes that are not UTF-8", "UTF-8 text"))?;
+        let (code, comment) = match text.split_once('#') {
+            Some((code, comment)) => (code, Some(comment)),
+            None => (text, None),
+        };
+        let words: Vec<&str> = code
+            .split([' ', '\t'])
+            .filter(|word| !word.is_empty())
+            .collect();
+        match (words.as_slice(), comment) {
+            ([], Some(comment)) => self.heading.push(comment.trim().to_owned()),
+            ([], None) => self.heading.clear(),
+            (words, _) => self.statement(line, words)?,
+        }
+        Ok(())
+    }
+
+    fn statement(&mut self, line: usize, words: &[&str]) -> Result<(), Bad> {
+        let heading = std::mem::take(&mut self.heading);
+        let (words, answer) = split_at_word(words, "=>");
+        let (words, name) = split_at_word(words, "->");
+        let (form, call) = forms::parse(&mut Arguments::new(words, &self.declared))?;
+        let binds = name.map(|name| binding(form.makes, name)).transpose()?;
+        // Declared even where the answer is bad, so that one mistake is reported once.
+        if let Some((space, name)) = &binds {
+            self.declared.add(*space, name);
+        }
+        let expected = answer.map(Expected::parse).transpose()?;
+        self.statements.push(Statement {
+            line,
+            heading,
+            text: words.join(" "),
+            name: form.name(),
+            call,
+            binds,
+            expected,
+        });
+        Ok(())
+    }
+}
+
+/// The words before `mark`, and those after it where it stands.
+fn split_at_word<'a, 'w>(
+    words: &'a [&'w str],
+    mark: &str,
+) -> (&'a [&'w str], Option<&'a [&'w str]>) {
+    match words.iter().position(|word| *word == mark) {
+        Some(place) => {
+            let (before, after) = words.split_at(place);
+            (before, after.get(1..))
+        }
+        None => (words, None),
+    }
+}
+
+/// The name after `->`, in the space of what the call makes.
+fn binding(makes: Option<Space>, words: &[&str]) -> Result<(Space, String), Bad> {
+    let Some(space) = makes else {
+        let expected = "it only after create_ruleset, clone, create or link, which make something";
+        return Err(Bad::word("->", expected));
+    };
+    let name = match words {
+        [name] => *name,
+        [] => return Err(Bad::new("nothing after `->`", "a name")),
+        [_, more, ..] => {
+            return Err(Bad::word(
+                more,
+                "`=>` or the end of the line after the name",
+            ))
+        }
+    };
+    if !is_name(name) {
+        let expected = "a name of letters, digits, `_`, `-`, `.` that does not start with a digit";
+        return Err(Bad::word(name, expected));
+    }
+    if space.fixed(name).is_some() {
+        return Err(Bad::word(name, "a name without a meaning of its own"));
+    }
+    Ok((space, name.to_owned()))
+}
+
+#[cfg(test)]
+mod tests;

@@ -1,0 +1,412 @@
+//! Tests of the reader.
+use super::*;
+use skeinrabbit::{Attribute, Errno, Kind, PortRights, Rights, Scopes, Table};
+
+/// The only statement of a line that reads well.
+fn statement(line: &str) -> Statement {
+    let mut scenario = parse(line.as_bytes()).expect(line);
+    assert_eq!(scenario.statements.len(), 1, "{line}");
+    scenario.statements.remove(0)
+}
+
+/// What is wrong with a text, line by line.
+fn bad(text: &str) -> Vec<(usize, String, String)> {
+    let lines = parse(text.as_bytes()).err().unwrap_or_default();
+    let of = |line: BadLine| (line.line, line.bad.found, line.bad.expected);
+    lines.into_iter().map(of).collect()
+}
+
+fn number(number: u64) -> Operand {
+    Operand::Number(number)
+}
+
+fn name(name: &str) -> Operand {
+    Operand::Name(name.to_owned())
+}
+
+#[test]
+fn blanks_and_comments_are_skipped() {
+    let text = "# all\n\n \t # this\r\n\tclone\t main  # that\r\n";
+    let scenario = parse(text.as_bytes()).unwrap();
+    let [only] = scenario.statements.as_slice() else {
+        panic!("{scenario:?}");
+    };
+    assert_eq!(
+        (only.line, only.text.as_str(), only.name),
+        (4, "clone main", "clone")
+    );
+    assert!(parse(b"").unwrap().statements.is_empty());
+}
+
+#[test]
+fn a_heading_is_the_comment_right_above() {
+    let text = "# far\n\n# near\n# and more\nclone main\nclone main";
+    let scenario = parse(text.as_bytes()).unwrap();
+    assert_eq!(scenario.statements[0].heading, ["near", "and more"]);
+    assert!(scenario.statements[1].heading.is_empty());
+}
+
+#[test]
+fn names_and_answers_are_taken_off() {
+    let read = statement("create main root regular -> page.1 => new 0x5");
+    assert_eq!(read.text, "create main root regular");
+    assert_eq!(read.binds, Some((Space::Entry, "page.1".to_owned())));
+    assert_eq!(read.expected, Some(Expected::New(5)));
+    let thread = name("main");
+    let directory = name("root");
+    let kind = Kind::REGULAR;
+    let call = TreeCall::Create { directory, kind };
+    assert_eq!(read.call, Call::Tree { thread, call });
+}
+
+#[test]
+fn every_form_of_answer_is_read() {
+    let expected = |answer: &str| {
+        statement(&format!("clone main => {answer}"))
+            .expected
+            .unwrap()
+    };
+    assert_eq!(expected("0"), Expected::Number(0));
+    assert_eq!(expected("0x10"), Expected::Number(16));
+    assert_eq!(expected("new 3"), Expected::New(3));
+    assert_eq!(expected("EACCES"), Expected::Error(Errno::EACCES));
+    assert_eq!(expected("-13"), Expected::Error(Errno::EACCES));
+}
+
+#[test]
+fn answers_meet_what_is_expected() {
+    let met = |expected: &str, answer| {
+        let words: Vec<&str> = expected.split(' ').collect();
+        Expected::parse(&words).unwrap().is_met_by(answer)
+    };
+    assert!(met("0", Answer::Done) && met("5", Answer::New(5)) && met("new 5", Answer::New(5)));
+    assert!(met("EIO", Answer::Refused(Errno::EIO)) && met("-5", Answer::Refused(Errno::EIO)));
+    assert!(!met("new 0", Answer::Done) && !met("5", Answer::Refused(Errno::EIO)));
+    assert!(!met("EIO", Answer::New(5)) && !met("1", Answer::Done) && !met("4", Answer::New(5)));
+    assert!(!met("18446744073709551611", Answer::Refused(Errno::EIO)));
+}
+
+#[test]
+fn rulesets_are_given_by_masks_or_bytes() {
+    let bytes = |line: &str| match statement(line).call {
+        Call::Ruleset(RulesetCall::Create { bytes, flags }) => (bytes, flags),
+        call => panic!("{call:?}"),
+    };
+    let attribute = Attribute {
+        fs: Rights::READ_FILE | Rights::REFER,
+        net: PortRights::BIND_TCP,
+        scope: Scopes::ALL,
+    };
+    let masks = RulesetBytes::Masks(Masks {
+        attribute,
+        size: Some(30),
+    });
+    let line = "create_ruleset flags=0x1 size=30 scope=3 net=Bind_TCP fs=read_file+REFER";
+    assert_eq!(bytes(line), (masks, 1));
+    assert_eq!(bytes("create_ruleset hex="), (RulesetBytes::Hex(vec![]), 0));
+    assert_eq!(
+        bytes("create_ruleset hex=04fF"),
+        (RulesetBytes::Hex(vec![4, 255]), 0)
+    );
+    assert_eq!(
+        bytes("create_ruleset"),
+        (RulesetBytes::Masks(Masks::default()), 0)
+    );
+}
+
+#[test]
+fn arguments_may_be_left_out() {
+    let rename = |line: &str| match statement(line).call {
+        Call::Tree {
+            call: TreeCall::Rename(_, replaced),
+            ..
+        } => replaced,
+        call => panic!("{call:?}"),
+    };
+    assert_eq!(rename("rename 0 1 2"), None);
+    assert_eq!(rename("rename 0 1 2 3"), Some(number(3)));
+    let flags = |line: &str| match statement(line).call {
+        Call::Ruleset(RulesetCall::Restrict { flags, .. }) => flags,
+        call => panic!("{call:?}"),
+    };
+    assert_eq!((flags("restrict 0 0"), flags("restrict 0 0 7")), (0, 7));
+}
+
+#[test]
+fn the_admin_mark_is_a_word_or_a_number() {
+    for (word, expected) in [("on", true), ("off", false), ("0", false), ("2", true)] {
+        let call = ThreadCall::SetAdmin { on: expected };
+        let thread = name("main");
+        assert_eq!(
+            statement(&format!("set_admin main {word}")).call,
+            Call::Thread { thread, call }
+        );
+    }
+}
+
+#[test]
+fn pokes_stay_in_their_table() {
+    let poke = Call::Poke {
+        table: Table::Threads,
+        cell: 31,
+        value: u64::MAX,
+    };
+    assert_eq!(statement("poke threads 31 0xffffffffffffffff").call, poke);
+    for line in [
+        "poke threads 32 0",
+        "poke system 4 0",
+        "poke names 0 0",
+        "poke pool 0",
+    ] {
+        assert_eq!(bad(line).len(), 1, "{line}");
+    }
+}
+
+#[test]
+fn name_spaces_are_apart() {
+    let text = "\
+create main root regular -> x
+clone main -> x
+create_ruleset fs=1 -> main
+restrict x main
+remove x x";
+    assert_eq!(bad(text), []);
+    assert_eq!(bad("clone main -> x\nremove x x").len(), 1);
+    assert_eq!(bad("restrict root 0").len(), 1);
+    assert_eq!(bad("remove main main").len(), 1);
+}
+
+/// Lines with what is found in them and a part of what is expected.
+const MISTAKES: &[(&str, &str, &str)] = &[
+    ("walk main", "`walk`", "a call: fresh, create_ruleset"),
+    ("=> 0", "no call", "a call before"),
+    ("-> x", "no call", "a call before"),
+    ("clone", "too few words", "`clone THREAD`"),
+    ("clone main main", "`main`", "no more than `clone THREAD`"),
+    (
+        "clone other",
+        "`other`",
+        "the thread's number, or a name that a line above binds",
+    ),
+    ("clone 5x", "`5x`", "the thread's number or name"),
+    ("clone main ->", "nothing after `->`", "a name"),
+    ("clone main -> 5", "`5`", "a name of letters"),
+    ("clone main -> a b", "`b`", "`=>` or the end"),
+    (
+        "clone main -> main",
+        "`main`",
+        "a name without a meaning of its own",
+    ),
+    (
+        "access main root 1 -> x",
+        "`->`",
+        "create_ruleset, clone, create or link",
+    ),
+    ("clone main =>", "nothing after `=>`", "an answer"),
+    ("clone main => new", "nothing after `new`", "a number"),
+    ("clone main => new x", "`x`", "a number"),
+    ("clone main => new 1 2", "`2`", "the end of the line"),
+    ("clone main => 0 -> x", "`->`", "the end of the line"),
+    ("clone main => EWHAT", "`EWHAT`", "an answer"),
+    ("access main root read", "`read`", "rights at files"),
+    ("access main root bind_tcp", "`bind_tcp`", "rights at files"),
+    ("port main 80 read_file", "`read_file`", "rights at ports"),
+    ("port main http bind_tcp", "`http`", "a port: a number"),
+    (
+        "fresh 18446744073709551616",
+        "`18446744073709551616`",
+        "below 2^64",
+    ),
+    ("create main root pipe", "`pipe`", "a kind: regular"),
+    ("set_admin main yes", "`yes`", "`on`, `off` or a number"),
+    ("create_ruleset fs", "``", "rights at files"),
+    ("create_ruleset hex", "`hex`", "fs=, net="),
+    ("create_ruleset fs=1 fs=1", "`fs=1`", "`fs=` once"),
+    (
+        "create_ruleset hex=123",
+        "`123`",
+        "pairs of hexadecimal digits",
+    ),
+    (
+        "create_ruleset hex=0g",
+        "`0g`",
+        "pairs of hexadecimal digits",
+    ),
+    ("create_ruleset hex= fs=1", "`hex=` beside", "only one"),
+    ("create_ruleset 5", "`5`", "fs=, net="),
+    ("clone\u{a0}main", "`clone\\u{a0}main`", "a call"),
+];
+
+#[test]
+fn each_mistake_says_what_was_found_and_expected() {
+    for (line, found, expected) in MISTAKES {
+        let lines = bad(&format!("\n{line} # comment"));
+        let [(2, was, wanted)] = lines.as_slice() else {
+            panic!("{line}: {lines:?}");
+        };
+        assert!(was.contains(found), "{line}: {was}");
+        assert!(wanted.contains(expected), "{line}: {wanted}");
+    }
+}
+
+#[test]
+fn every_bad_line_is_reported() {
+    let lines = bad("walk\nclone main\nrun\n\nclone nobody");
+    let places: Vec<usize> = lines.into_iter().map(|(line, ..)| line).collect();
+    assert_eq!(places, [1, 3, 5]);
+}
+
+#[test]
+fn bytes_that_are_not_text_are_bad_input() {
+    let lines = parse(b"clone main\nclone \xff\n").unwrap_err();
+    assert_eq!(
+        (lines[0].line, lines[0].bad.found.as_str()),
+        (2, "bytes that are not UTF-8")
+    );
+}
+
+#[test]
+fn long_words_are_cut_in_messages() {
+    let lines = bad(&"x".repeat(10_000));
+    assert!(lines[0].1.len() < 100);
+    assert_eq!(bad("\u{1b}[2J")[0].1, "`\\u{1b}[2J`");
+}
+
+/// Numbers that look random and are the same each time.
+struct Noise(u64);
+
+impl Noise {
+    fn below(&mut self, bound: usize) -> usize {
+        self.0 = self
+            .0
+            .wrapping_mul(6364136223846793005)
+            .wrapping_add(1442695040888963407);
+        (self.0 >> 33) as usize % bound
+    }
+}
+
+#[test]
+fn any_bytes_are_read_or_refused() {
+    let mut noise = Noise(1);
+    for _ in 0..3000 {
+        let length = noise.below(200);
+        let bytes: Vec<u8> = (0..length).map(|_| noise.below(256) as u8).collect();
+        let _ = parse(&bytes);
+    }
+}
+
+/// Words that lines are made of.
+const WORDS: &[&str] = &[
+    "fresh",
+    "create_ruleset",
+    "close_ruleset",
+    "add_path_rule",
+    "add_port_rule",
+    "restrict",
+    "layer_rules",
+    "clone",
+    "set_no_new_privs",
+    "set_admin",
+    "access",
+    "port",
+    "create",
+    "remove",
+    "link",
+    "rename",
+    "exchange",
+    "poke",
+    "->",
+    "=>",
+    "new",
+    "main",
+    "root",
+    "x",
+    "0",
+    "1",
+    "6",
+    "0xffffffffffffffff",
+    "hex=",
+    "hex=04000000000000",
+    "fs=4",
+    "net=1",
+    "size=",
+    "size=18446744073709551615",
+    "flags=1",
+    "read_file",
+    "none",
+    "+",
+    "on",
+    "EIO",
+    "-5",
+    "#",
+    "threads",
+    "entries",
+    "directory",
+    "\u{0}",
+    "é",
+    "\n",
+    "\n",
+    "\n",
+];
+
+#[test]
+fn any_words_are_read_or_refused_and_played() {
+    let mut noise = Noise(2);
+    for _ in 0..300 {
+        let words: Vec<&str> = (0..noise.below(60))
+            .map(|_| WORDS[noise.below(WORDS.len())])
+            .collect();
+        if let Ok(scenario) = parse(words.join(" ").as_bytes()) {
+            crate::play::play(&scenario);
+        }
+    }
+    // Whole lines, so that most are read and reach the core.
+    for _ in 0..100 {
+        let lines: Vec<String> = (0..30).map(|_| line(&mut noise)).collect();
+        for line in &lines {
+            if let Ok(scenario) = parse(line.as_bytes()) {
+                crate::play::play(&scenario);
+            }
+        }
+    }
+}
+
+/// Calls with the number of their arguments.
+const CALLS: &[(&str, usize)] = &[
+    ("fresh", 1),
+    ("close_ruleset", 1),
+    ("add_path_rule", 4),
+    ("add_port_rule", 4),
+    ("restrict", 3),
+    ("layer_rules", 1),
+    ("clone", 1),
+    ("set_no_new_privs", 1),
+    ("set_admin", 2),
+    ("access", 3),
+    ("port", 3),
+    ("create", 3),
+    ("remove", 2),
+    ("link", 3),
+    ("rename", 4),
+    ("exchange", 4),
+    ("poke threads", 2),
+];
+const NUMBERS: &[&str] = &[
+    "0",
+    "1",
+    "2",
+    "7",
+    "31",
+    "1024",
+    "0x8000000000000000",
+    "0xffffffffffffffff",
+];
+
+/// A call with arguments that are numbers.
+fn line(noise: &mut Noise) -> String {
+    let (call, count) = CALLS[noise.below(CALLS.len())];
+    let arguments: Vec<&str> = (0..count)
+        .map(|_| NUMBERS[noise.below(NUMBERS.len())])
+        .collect();
+    format!("{call} {}", arguments.join(" "))
+}

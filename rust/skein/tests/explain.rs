@@ -1,0 +1,282 @@
+//! `skein explain` and `skein demo`: pictures and their JSON.
+mod support;
+use support::{example, json, skein, skein_with, Value, EXAMPLES};
+
+/// Drawn by hand from document 01: layer B, with a hard link of the feed in /cal.
+const LINKED: &str = "\
+create main root directory -> cal
+create main root directory -> import
+create main cal regular -> table
+create main import regular -> feed
+link main feed cal
+create_ruleset fs=8486 net=bind_tcp -> B
+add_path_rule B cal 8452
+add_path_rule B import 8486
+add_port_rule B 8080 bind_tcp
+set_no_new_privs main
+restrict main B
+";
+
+const LINKED_PICTURE: &str = "\
+thread main: layer 0; no_new_privs
+                                      write_file
+                                      │ read_file
+                                      │ │ remove_file
+                                      │ │ │ make_reg
+                                      │ │ │ │ refer
+entry          no  kind       object  │ │ │ │ │
+root            0  directory  0       - - - - -
+├─ cal          1  directory  1       - + - + +
+│  ├─ table     3  regular    3       - +
+│  └─ 5         5  regular    4 ×2    - +
+└─ import       2  directory  2       + + + + +
+   └─ feed      4  regular    4 ×2    + +
+
++ granted   - denied   blank: not a right of this kind of entry
+×N: an object with N entries (hard links)
+
+ports of  port   bind_tcp  connect_tcp
+main      8080   +         +
+main      other  -         +
+";
+
+#[test]
+fn the_linked_tree_is_drawn_as_by_hand() {
+    let ran = skein_with(&["explain", "-"], LINKED.as_bytes());
+    assert_eq!((ran.code, ran.err.as_str()), (0, ""));
+    assert_eq!(ran.out, LINKED_PICTURE, "\n{}", ran.out);
+}
+
+#[test]
+fn without_a_layer_nothing_is_denied() {
+    let ran = skein_with(&["explain", "-"], b"create main root fifo -> pipe\n");
+    let expected = "\
+entry      no  kind       object
+root        0  directory  0
+└─ pipe     1  fifo       1
+
+No layer handles a right: every thread may do everything.
+
+ports of  port   bind_tcp  connect_tcp
+main      other  +         +
+";
+    assert_eq!(ran.out, expected, "\n{}", ran.out);
+}
+
+#[test]
+fn tables_that_are_not_sound_are_not_drawn() {
+    let ran = skein_with(&["explain", "-"], b"poke entries 0 1\n");
+    assert_eq!(
+        (ran.code, ran.out.as_str()),
+        (0, "The tables are not sound: every call answers EIO.\n")
+    );
+    let document = json(&skein_with(&["explain", "--json", "-"], b"poke entries 0 1\n").out);
+    assert_eq!(document.at("sound"), &Value::Bool(false));
+    assert!(document.at("threads").list().is_empty());
+}
+
+#[test]
+fn a_differing_answer_is_told() {
+    let ran = skein_with(&["explain", "-"], b"clone main => EAGAIN\n");
+    assert_eq!(ran.code, 1);
+    assert_eq!(ran.err, "skein: -: 1 call, 1 expectation, 1 differing\n");
+    assert!(ran.out.contains("└") || ran.out.contains("root"));
+}
+
+#[test]
+fn names_of_what_is_gone_are_not_drawn() {
+    let text = "\
+create main root fifo -> old
+remove main old
+create main root fifo
+create main root fifo -> twice
+create main root fifo -> twice
+clone main -> t
+";
+    let ran = skein_with(&["explain", "-", "--all-rights"], text.as_bytes());
+    assert!(!ran.out.contains("old"), "{}", ran.out);
+    assert_eq!(
+        ran.out.matches("─ twice").count(),
+        2,
+        "once in the picture of each thread"
+    );
+    assert!(ran.out.contains("└─ twice     3"), "{}", ran.out);
+    assert!(ran.out.contains("thread t: no layer"));
+}
+
+/// What `explain` says a thread may do must be what the calls of `run` answer.
+#[test]
+fn pictures_agree_with_the_calls() {
+    for name in EXAMPLES {
+        let text = std::fs::read_to_string(example(name)).unwrap();
+        let document = json(&skein(&["explain", "--json", "--all-rights", &example(name)]).out);
+        let mut asked = text.clone();
+        for thread in document.at("threads").list() {
+            let number = thread.at("thread").number();
+            for at in thread.at("access").list() {
+                let entry = at.at("entry").number();
+                expect(&mut asked, &format!("access {number} {entry}"), at);
+            }
+            for at in thread.at("ports").list() {
+                let port = match at.at("port") {
+                    Value::Null => 60_000,
+                    port => port.number(),
+                };
+                expect(&mut asked, &format!("port {number} {port}"), at);
+            }
+        }
+        let ran = skein_with(&["run", "-"], asked.as_bytes());
+        assert_eq!(ran.code, 0, "{name}\n{}", ran.out);
+        assert!(asked.lines().count() > text.lines().count(), "{name}");
+    }
+}
+
+/// Appends a line for each right that is granted or denied.
+fn expect(lines: &mut String, request: &str, at: &Value) {
+    for (list, answer) in [("granted", "0"), ("denied", "EACCES")] {
+        for right in at.at(list).texts() {
+            lines.push_str(&format!("{request} {right} => {answer}\n"));
+        }
+    }
+}
+
+#[test]
+fn every_right_of_its_kind_is_granted_or_denied() {
+    let document = json(
+        &skein_with(
+            &["explain", "--json", "--all-rights", "-"],
+            LINKED.as_bytes(),
+        )
+        .out,
+    );
+    let kinds: Vec<&str> = document
+        .at("entries")
+        .list()
+        .iter()
+        .map(|entry| entry.at("kind").text())
+        .collect();
+    let thread = &document.at("threads").list()[0];
+    for (kind, at) in kinds.iter().zip(thread.at("access").list()) {
+        let shown = at.at("granted").texts().len() + at.at("denied").texts().len();
+        let rights = if *kind == "directory" { 16 } else { 5 };
+        assert_eq!(shown, rights, "{kind}");
+    }
+    assert_eq!(document.at("rights").texts().len(), 16);
+}
+
+#[test]
+fn json_has_the_documented_fields() {
+    let document = json(&skein_with(&["explain", "--json", "-"], LINKED.as_bytes()).out);
+    assert_eq!(document.at("command").text(), "explain");
+    assert_eq!(document.at("level").number(), 6);
+    let rights = [
+        "write_file",
+        "read_file",
+        "remove_file",
+        "make_reg",
+        "refer",
+    ];
+    assert_eq!(document.at("rights").texts(), rights);
+    let entries = document.at("entries").list();
+    let numbers: Vec<u64> = entries
+        .iter()
+        .map(|entry| entry.at("entry").number())
+        .collect();
+    assert_eq!(numbers, [0, 1, 3, 5, 2, 4]);
+    assert_eq!(entries[0].at("parent"), &Value::Null);
+    assert_eq!(entries[3].at("name"), &Value::Null);
+    assert_eq!(entries[3].at("parent").number(), 1);
+    assert_eq!(entries[3].at("object").number(), 4);
+    assert_eq!(entries[3].at("links").number(), 2);
+    let thread = &document.at("threads").list()[0];
+    assert_eq!(thread.at("name").text(), "main");
+    assert_eq!(thread.at("layers").list(), [Value::Number(0)]);
+    assert_eq!(thread.at("no_new_privs"), &Value::Bool(true));
+    assert_eq!(thread.at("admin"), &Value::Bool(false));
+    let ports = thread.at("ports").list();
+    assert_eq!(ports[0].at("port").number(), 8080);
+    assert_eq!(ports[1].at("port"), &Value::Null);
+    assert_eq!(ports[1].at("denied").texts(), ["bind_tcp"]);
+}
+
+#[test]
+fn pictures_fit_in_100_columns() {
+    let mut text = String::from("create main root directory -> d0\n");
+    for depth in 1..40 {
+        let name = "n".repeat(depth);
+        text.push_str(&format!("create main {depth} directory -> {name}\n"));
+    }
+    text.push_str(
+        "poke system 1 4294967295\ncreate main root regular -> far\nlink main far 40 -> near\n",
+    );
+    text.push_str(
+        "create_ruleset fs=0xffff net=3 -> r\nset_admin main on\nset_no_new_privs main\n",
+    );
+    text.push_str(&format!("clone main -> {}\n", "t".repeat(200)));
+    text.push_str(&"restrict main r\n".repeat(16));
+    text.push_str(&"restrict 1 r\n".repeat(16));
+    let ran = skein_with(&["explain", "--all-rights", "-"], text.as_bytes());
+    assert_eq!((ran.code, ran.err.as_str()), (0, ""));
+    for line in ran.out.lines() {
+        assert!(line.chars().count() <= 100, "{line}");
+    }
+    assert!(ran.out.contains("layers 16 17 18"), "{}", ran.out);
+    assert!(ran.out.contains("…depth 40"), "{}", ran.out);
+    assert!(ran.out.contains("4294967295 ×2"), "{}", ran.out);
+}
+
+#[test]
+fn layers_and_marks_are_named() {
+    let text = "\
+create_ruleset fs=4 -> r
+set_admin main on
+set_no_new_privs main
+restrict main r
+restrict main r
+";
+    let ran = skein_with(&["explain", "-"], text.as_bytes());
+    assert!(
+        ran.out
+            .starts_with("thread main: layers 0 1, oldest first; no_new_privs; admin\n"),
+        "{}",
+        ran.out
+    );
+}
+
+#[test]
+fn the_demo_shows_the_tree_and_the_worked_answers() {
+    let ran = skein(&["demo"]);
+    assert_eq!((ran.code, ran.err.as_str()), (0, ""));
+    // The rows of /cal, from document 01: A gives it 4, B 8452, C 8484.
+    for row in [
+        "1       - + - - -",
+        "1       - + - + +",
+        "1       - + + + +",
+    ] {
+        assert_eq!(
+            ran.out
+                .matches(&format!("cal          1  directory  {row}"))
+                .count(),
+            1,
+            "{row}"
+        );
+    }
+    for case in [
+        "A: execute 3 gives 0*",
+        "C: rename 3 to 2 EXDEV*",
+        "A 17th layer is E2BIG",
+    ] {
+        assert!(ran.out.contains(case), "{case}");
+    }
+    assert!(!ran.out.contains("DIFFERS"));
+    assert!(ran.out.lines().all(|line| line.chars().count() <= 100));
+}
+
+#[test]
+fn the_demo_is_one_json_document() {
+    let ran = skein(&["demo", "--json"]);
+    let document = json(&ran.out);
+    assert_eq!((ran.code, document.at("command").text()), (0, "demo"));
+    assert_eq!(document.at("run").at("differing").number(), 0);
+    assert_eq!(document.at("explain").at("threads").list().len(), 4);
+}

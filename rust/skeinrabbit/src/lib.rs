@@ -1,0 +1,122 @@
+//! A file broker that answers as Linux's Landlock would, and is proved to.
+//!
+//! Landlock lets a program give up rights at files and ports for good. Where a kernel has no Landlock, a controller can
+//! ask Skeinrabbit instead: it keeps a file tree, rulesets, layers and threads in [`Tables`], and answers each call with
+//! success or with exactly the error number that the specification, document 01, names. The core behind these methods is
+//! proved to do so for all arguments and all tables, damaged ones included; this crate gives it types.
+//!
+//! # A sandbox
+//!
+//! A ruleset says which rights it *handles* and where it grants them. What it handles and grants nowhere is denied.
+//! [`OpenRuleset::restrict`] makes it a layer of a thread's domain, which is never taken away, and a request must be granted by
+//! every layer that handles it.
+//!
+//! ```
+//! use skeinrabbit::{Entry, Errno, Kind, Level, PortRights, Rights, Tables, Thread};
+//!
+//! let mut tables = Tables::new(Level::LATEST)?;
+//! let docs = tables.create(Thread::MAIN, Entry::ROOT, Kind::DIRECTORY)?;
+//! let page = tables.create(Thread::MAIN, docs, Kind::REGULAR)?;
+//!
+//! let worker = tables.clone_thread(Thread::MAIN)?;
+//! tables.set_no_new_privs(worker)?;
+//! tables
+//!     .ruleset()
+//!     .handle_fs(Rights::READ_FILE | Rights::WRITE_FILE)
+//!     .handle_net(PortRights::CONNECT_TCP)
+//!     .create()?
+//!     .add_path(docs, Rights::READ_FILE)?
+//!     .add_port(443, PortRights::CONNECT_TCP)?
+//!     .restrict(worker)?;
+//!
+//! assert_eq!(tables.access(worker, page, Rights::READ_FILE), Ok(()));
+//! assert_eq!(tables.access(worker, page, Rights::WRITE_FILE), Err(Errno::EACCES));
+//! assert_eq!(tables.port(worker, 80, PortRights::CONNECT_TCP), Err(Errno::EACCES));
+//! # Ok::<(), Errno>(())
+//! ```
+//!
+//! # The incident
+//!
+//! A program may read the calibration tree, and may do everything in an import folder. It wants to change the calibration
+//! table, which it may only read: it tries to move the table to where it may write. A broker that looks only at the target
+//! folder lets it. Here the move is refused: with EACCES where taking the table out of its folder is denied, and with EXDEV
+//! where that is granted but the table would gain a right by the move.
+//!
+//! ```
+//! use skeinrabbit::{Entry, Errno, Kind, Level, Rights, Tables, Thread};
+//!
+//! let mut tables = Tables::new(Level::LATEST)?;
+//! let cal = tables.create(Thread::MAIN, Entry::ROOT, Kind::DIRECTORY)?;
+//! let import = tables.create(Thread::MAIN, Entry::ROOT, Kind::DIRECTORY)?;
+//! let table = tables.create(Thread::MAIN, cal, Kind::REGULAR)?;
+//!
+//! let plugin = tables.clone_thread(Thread::MAIN)?;
+//! tables.set_no_new_privs(plugin)?;
+//! let all = Rights::READ_FILE | Rights::WRITE_FILE | Rights::REMOVE_FILE | Rights::MAKE_REG | Rights::REFER;
+//! tables
+//!     .ruleset()
+//!     .handle_fs(all)
+//!     .create()?
+//!     .add_path(cal, Rights::READ_FILE)?
+//!     .add_path(import, all)?
+//!     .restrict(plugin)?;
+//!
+//! assert_eq!(tables.access(plugin, table, Rights::WRITE_FILE), Err(Errno::EACCES));
+//! assert_eq!(tables.rename(plugin, table, import, None), Err(Errno::EACCES));
+//!
+//! // Another plug-in may even take files out of the tree. The table still does not go where it could be written.
+//! let mover = tables.clone_thread(Thread::MAIN)?;
+//! tables.set_no_new_privs(mover)?;
+//! tables
+//!     .ruleset()
+//!     .handle_fs(all)
+//!     .create()?
+//!     .add_path(cal, all - Rights::WRITE_FILE)?
+//!     .add_path(import, all)?
+//!     .restrict(mover)?;
+//! assert_eq!(tables.rename(mover, table, import, None), Err(Errno::EXDEV));
+//! # Ok::<(), Errno>(())
+//! ```
+//!
+//! # Numbers
+//!
+//! Entries, rulesets, threads, layers, kinds, levels and sets of rights are numbers with a type of their own. Any number may
+//! stand in any of them: the core tests what it gets, and a number that means nothing is refused as the specification says. No
+//! method of this crate panics.
+#![forbid(unsafe_code)]
+#![deny(missing_docs)]
+#![cfg_attr(
+    not(test),
+    deny(
+        clippy::expect_used,
+        clippy::indexing_slicing,
+        clippy::panic,
+        clippy::unwrap_used
+    )
+)]
+
+mod builder;
+mod cells;
+mod errno;
+mod kind;
+mod level;
+mod numbers;
+mod policy;
+mod rights;
+mod rows;
+mod rules;
+mod tables;
+mod text;
+mod tree;
+
+pub use builder::{OpenRuleset, RulesetBuilder};
+pub use cells::{Cells, Table};
+pub use errno::Errno;
+pub use kind::Kind;
+pub use level::Level;
+pub use numbers::{Entry, Layer, Ruleset, Thread};
+pub use rights::{PortRights, Rights, Scopes};
+pub use rows::{Attribute, EntryRow, LayerRow, RulesetRow, ThreadRow};
+pub use rules::{Rule, Rules, RulesIter};
+pub use tables::Tables;
+pub use text::{parse_number, ParseError};

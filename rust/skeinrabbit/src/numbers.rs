@@ -1,0 +1,66 @@
+//! Numbers of entries, rulesets, threads and layers.
+use std::fmt;
+
+macro_rules! number {
+    ($(#[$doc:meta])* $name:ident) => {
+        $(#[$doc])*
+        ///
+        /// Any number may stand here: one out of range counts as not live, not open or not in use.
+        #[derive(Clone, Copy, Debug, PartialEq, Eq, PartialOrd, Ord, Hash)]
+        pub struct $name(u64);
+
+        impl $name {
+            /// The one with this number; the core tests it.
+            pub const fn new(number: u64) -> Self {
+                Self(number)
+            }
+
+            /// The number.
+            pub const fn number(self) -> u64 {
+                self.0
+            }
+        }
+
+        impl From<u64> for $name {
+            fn from(number: u64) -> Self {
+                Self(number)
+            }
+        }
+
+        impl fmt::Display for $name {
+            fn fmt(&self, f: &mut fmt::Formatter<'_>) -> fmt::Result {
+                self.0.fmt(f)
+            }
+        }
+    };
+}
+
+number! {
+    /// An entry of the file tree, one of 1,024.
+    Entry
+}
+
+number! {
+    /// A ruleset, one of 16.
+    Ruleset
+}
+
+number! {
+    /// A thread, one of 8.
+    Thread
+}
+
+number! {
+    /// A layer, one of 64.
+    Layer
+}
+
+impl Entry {
+    /// The root of the tree.
+    pub const ROOT: Entry = Entry(0);
+}
+
+impl Thread {
+    /// The thread of fresh tables.
+    pub const MAIN: Thread = Thread(0);
+}

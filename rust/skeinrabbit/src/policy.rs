@@ -1,0 +1,258 @@
+//! The calls that leave the tree alone: rulesets, threads and requests.
+use crate::errno::Errno;
+use crate::numbers::{Entry, Layer, Ruleset, Thread};
+use crate::rights::{PortRights, Rights};
+use crate::rules::Rules;
+use crate::tables::Tables;
+use skeinrabbit_sys as sys;
+
+/// # Rulesets
+///
+/// [`Tables::ruleset`] starts a builder over these.
+impl Tables {
+    /// Opens a ruleset from the bytes of its attribute ([`Attribute::to_bytes`](crate::Attribute::to_bytes)) and answers its
+    /// number, the lowest that is closed.
+    ///
+    /// Refusals, in order: tables not sound, EIO; level 0, EOPNOTSUPP; flags not 0, EINVAL; fewer than 8 bytes, EINVAL; over
+    /// 4,096, E2BIG; a byte that is not 0 past the level's known size, E2BIG; a bit unknown to the level, EINVAL; all masks
+    /// empty, ENOMSG; 16 rulesets open, EMFILE.
+    ///
+    /// ```
+    /// # use skeinrabbit::*;
+    /// let mut tables = Tables::new(Level::LATEST)?;
+    /// assert_eq!(tables.create_ruleset(&[4, 0, 0, 0, 0, 0, 0, 0], 0), Ok(Ruleset::new(0)));
+    /// assert_eq!(tables.create_ruleset(&[4], 0), Err(Errno::EINVAL));
+    /// assert_eq!(tables.create_ruleset(&[0; 8], 0), Err(Errno::ENOMSG));
+    /// # Ok::<(), Errno>(())
+    /// ```
+    pub fn create_ruleset(&mut self, attribute: &[u8], flags: u64) -> Result<Ruleset, Errno> {
+        let raw = sys::create_ruleset(&mut self.raw(), attribute, flags);
+        Errno::answer(raw).map(Ruleset::new)
+    }
+
+    /// Closes a ruleset. Layers made of it stay as they are.
+    ///
+    /// Refusals, in order: tables not sound, EIO; ruleset not open, EBADF.
+    ///
+    /// ```
+    /// # use skeinrabbit::*;
+    /// let mut tables = Tables::new(Level::LATEST)?;
+    /// assert_eq!(tables.close_ruleset(Ruleset::new(0)), Err(Errno::EBADF));
+    /// # Ok::<(), Errno>(())
+    /// ```
+    pub fn close_ruleset(&mut self, ruleset: Ruleset) -> Result<(), Errno> {
+        let raw = sys::close_ruleset(&mut self.raw(), ruleset.number());
+        Errno::answer(raw).map(drop)
+    }
+
+    /// Grants rights at an entry's object and below it; joins them to a rule that is there.
+    ///
+    /// Refusals, in order: tables not sound, EIO; level 0, EOPNOTSUPP; flags not 0, EINVAL; ruleset not open, EBADF; rights
+    /// empty, ENOMSG; rights outside those handled, EINVAL (REFER must be asked for); entry not live, EBADF; entry no directory
+    /// and rights outside the file set, EINVAL; a new object with 64 rules there, E2BIG.
+    ///
+    /// ```
+    /// # use skeinrabbit::*;
+    /// let mut tables = Tables::new(Level::LATEST)?;
+    /// let ruleset = tables.ruleset().handle_fs(Rights::READ_FILE).create()?.keep();
+    /// assert_eq!(tables.add_path_rule(ruleset, Entry::ROOT, Rights::READ_FILE, 0), Ok(()));
+    /// assert_eq!(tables.add_path_rule(ruleset, Entry::ROOT, Rights::REFER, 0), Err(Errno::EINVAL));
+    /// # Ok::<(), Errno>(())
+    /// ```
+    pub fn add_path_rule(
+        &mut self,
+        ruleset: Ruleset,
+        entry: Entry,
+        rights: Rights,
+        flags: u64,
+    ) -> Result<(), Errno> {
+        let (ruleset, entry) = (ruleset.number(), entry.number());
+        let raw = sys::add_path_rule(&mut self.raw(), ruleset, entry, rights.bits(), flags);
+        Errno::answer(raw).map(drop)
+    }
+
+    /// Grants rights at a port; joins them to a rule that is there.
+    ///
+    /// Refusals, in order: tables not sound, EIO; level 0, EOPNOTSUPP; flags not 0, EINVAL; ruleset not open, EBADF; rights
+    /// empty, ENOMSG; rights outside those handled, EINVAL; port above 65,535, EINVAL; a new port with 64 rules there, E2BIG.
+    ///
+    /// ```
+    /// # use skeinrabbit::*;
+    /// let mut tables = Tables::new(Level::LATEST)?;
+    /// let ruleset = tables.ruleset().handle_net(PortRights::ALL).create()?.keep();
+    /// assert_eq!(tables.add_port_rule(ruleset, 80, PortRights::BIND_TCP, 0), Ok(()));
+    /// assert_eq!(tables.add_port_rule(ruleset, 65_536, PortRights::BIND_TCP, 0), Err(Errno::EINVAL));
+    /// # Ok::<(), Errno>(())
+    /// ```
+    pub fn add_port_rule(
+        &mut self,
+        ruleset: Ruleset,
+        port: u64,
+        rights: PortRights,
+        flags: u64,
+    ) -> Result<(), Errno> {
+        let raw = sys::add_port_rule(
+            &mut self.raw(),
+            ruleset.number(),
+            port,
+            rights.bits(),
+            flags,
+        );
+        Errno::answer(raw).map(drop)
+    }
+
+    /// Gives a thread a layer made of a ruleset as it is now. Later rules or a close do not reach the layer.
+    ///
+    /// Refusals, in order: tables not sound, EIO; thread not live, ESRCH; level 0, EOPNOTSUPP; neither mark set, EPERM; flags
+    /// not 0, EINVAL; ruleset not open, EBADF; 16 layers already, E2BIG; no free layer or too few free pool rules, ENOMEM.
+    ///
+    /// ```
+    /// # use skeinrabbit::*;
+    /// let mut tables = Tables::new(Level::LATEST)?;
+    /// let ruleset = tables.ruleset().handle_fs(Rights::READ_FILE).create()?.keep();
+    /// assert_eq!(tables.restrict(Thread::MAIN, ruleset, 0), Err(Errno::EPERM));
+    /// tables.set_no_new_privs(Thread::MAIN)?;
+    /// assert_eq!(tables.restrict(Thread::MAIN, ruleset, 0), Ok(()));
+    /// # Ok::<(), Errno>(())
+    /// ```
+    pub fn restrict(&mut self, thread: Thread, ruleset: Ruleset, flags: u64) -> Result<(), Errno> {
+        let raw = sys::restrict(&mut self.raw(), thread.number(), ruleset.number(), flags);
+        Errno::answer(raw).map(drop)
+    }
+
+    /// The rules of a layer: a part of the pool, not a copy.
+    ///
+    /// Refusals, in order: tables not sound, EIO; layer not in use, EBADF. A layer in use without rules has an empty part.
+    ///
+    /// ```
+    /// # use skeinrabbit::*;
+    /// let mut tables = Tables::new(Level::LATEST)?;
+    /// tables.set_no_new_privs(Thread::MAIN)?;
+    /// tables
+    ///     .ruleset()
+    ///     .handle_fs(Rights::READ_FILE)
+    ///     .create()?
+    ///     .add_path(Entry::ROOT, Rights::READ_FILE)?
+    ///     .restrict(Thread::MAIN)?;
+    /// let rules = tables.layer_rules(Layer::new(0))?;
+    /// let all: Vec<Rule> = rules.iter().collect();
+    /// assert_eq!(all, [Rule::Path { object: 0, rights: Rights::READ_FILE }]);
+    /// assert_eq!(tables.layer_rules(Layer::new(1)), Err(Errno::EBADF));
+    /// # Ok::<(), Errno>(())
+    /// ```
+    pub fn layer_rules(&mut self, layer: Layer) -> Result<Rules<'_>, Errno> {
+        let mut part = [0; 2];
+        let raw = sys::layer_rules(&mut self.raw(), layer.number(), &mut part);
+        Errno::answer(raw)?;
+        Ok(Rules::new(self.pool_part(part).unwrap_or_default()))
+    }
+
+    fn pool_part(&self, part: [u64; 2]) -> Option<&[u64]> {
+        let [first, count] = part.map(usize::try_from);
+        let (first, count) = (first.ok()?, count.ok()?);
+        self.cells().pool.get(first..first.checked_add(count)?)
+    }
+}
+
+/// # Threads
+impl Tables {
+    /// Clones a thread, with its domain and marks, and answers the new thread, the lowest number that is free.
+    ///
+    /// Refusals, in order: tables not sound, EIO; thread not live, ESRCH; 8 threads live, EAGAIN.
+    ///
+    /// ```
+    /// # use skeinrabbit::*;
+    /// let mut tables = Tables::new(Level::LATEST)?;
+    /// assert_eq!(tables.clone_thread(Thread::MAIN), Ok(Thread::new(1)));
+    /// # Ok::<(), Errno>(())
+    /// ```
+    pub fn clone_thread(&mut self, thread: Thread) -> Result<Thread, Errno> {
+        let raw = sys::clone(&mut self.raw(), thread.number());
+        Errno::answer(raw).map(Thread::new)
+    }
+
+    /// Sets a thread's no_new_privs mark, once for all.
+    ///
+    /// Refusals, in order: tables not sound, EIO; thread not live, ESRCH.
+    ///
+    /// ```
+    /// # use skeinrabbit::*;
+    /// let mut tables = Tables::new(Level::LATEST)?;
+    /// assert_eq!(tables.set_no_new_privs(Thread::MAIN), Ok(()));
+    /// assert_eq!(tables.set_no_new_privs(Thread::new(1)), Err(Errno::ESRCH));
+    /// # Ok::<(), Errno>(())
+    /// ```
+    pub fn set_no_new_privs(&mut self, thread: Thread) -> Result<(), Errno> {
+        let raw = sys::set_no_new_privs(&mut self.raw(), thread.number());
+        Errno::answer(raw).map(drop)
+    }
+
+    /// Sets or clears a thread's admin mark.
+    ///
+    /// Refusals, in order: tables not sound, EIO; thread not live, ESRCH.
+    ///
+    /// ```
+    /// # use skeinrabbit::*;
+    /// let mut tables = Tables::new(Level::LATEST)?;
+    /// tables.set_admin(Thread::MAIN, true)?;
+    /// assert_eq!(tables.thread(Thread::MAIN).map(|row| row.admin), Some(true));
+    /// # Ok::<(), Errno>(())
+    /// ```
+    pub fn set_admin(&mut self, thread: Thread, on: bool) -> Result<(), Errno> {
+        let raw = sys::set_admin(&mut self.raw(), thread.number(), u64::from(on));
+        Errno::answer(raw).map(drop)
+    }
+}
+
+/// # Requests
+impl Tables {
+    /// Whether a thread may use an entry with all of these rights.
+    ///
+    /// Refusals, in order: tables not sound, EIO; thread not live, ESRCH; entry not live, ENOENT; rights empty, with an unknown
+    /// bit, or outside the file set for an entry that is no directory, EINVAL; some right not granted, EACCES.
+    ///
+    /// ```
+    /// # use skeinrabbit::*;
+    /// let mut tables = Tables::new(Level::LATEST)?;
+    /// tables.set_no_new_privs(Thread::MAIN)?;
+    /// tables
+    ///     .ruleset()
+    ///     .handle_fs(Rights::READ_DIR | Rights::MAKE_DIR)
+    ///     .create()?
+    ///     .add_path(Entry::ROOT, Rights::READ_DIR)?
+    ///     .restrict(Thread::MAIN)?;
+    /// assert_eq!(tables.access(Thread::MAIN, Entry::ROOT, Rights::READ_DIR), Ok(()));
+    /// assert_eq!(tables.access(Thread::MAIN, Entry::ROOT, Rights::MAKE_DIR), Err(Errno::EACCES));
+    /// # Ok::<(), Errno>(())
+    /// ```
+    pub fn access(&mut self, thread: Thread, entry: Entry, rights: Rights) -> Result<(), Errno> {
+        let (thread, entry) = (thread.number(), entry.number());
+        let raw = sys::access(&mut self.raw(), thread, entry, rights.bits());
+        Errno::answer(raw).map(drop)
+    }
+
+    /// Whether a thread may use a port with all of these rights.
+    ///
+    /// Refusals, in order: tables not sound, EIO; thread not live, ESRCH; port above 65,535, EINVAL; rights empty or with an
+    /// unknown bit, EINVAL; some right not granted, EACCES.
+    ///
+    /// ```
+    /// # use skeinrabbit::*;
+    /// let mut tables = Tables::new(Level::LATEST)?;
+    /// tables.set_no_new_privs(Thread::MAIN)?;
+    /// tables
+    ///     .ruleset()
+    ///     .handle_net(PortRights::BIND_TCP)
+    ///     .create()?
+    ///     .add_port(80, PortRights::BIND_TCP)?
+    ///     .restrict(Thread::MAIN)?;
+    /// assert_eq!(tables.port(Thread::MAIN, 80, PortRights::BIND_TCP), Ok(()));
+    /// assert_eq!(tables.port(Thread::MAIN, 81, PortRights::BIND_TCP), Err(Errno::EACCES));
+    /// assert_eq!(tables.port(Thread::MAIN, 81, PortRights::CONNECT_TCP), Ok(()));
+    /// # Ok::<(), Errno>(())
+    /// ```
+    pub fn port(&mut self, thread: Thread, port: u64, rights: PortRights) -> Result<(), Errno> {
+        let raw = sys::port(&mut self.raw(), thread.number(), port, rights.bits());
+        Errno::answer(raw).map(drop)
+    }
+}

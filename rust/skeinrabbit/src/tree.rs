@@ -1,0 +1,149 @@
+//! The calls that change the tree.
+use crate::errno::Errno;
+use crate::kind::Kind;
+use crate::numbers::{Entry, Thread};
+use crate::tables::Tables;
+use skeinrabbit_sys as sys;
+
+/// # The tree
+///
+/// Where a call names two directories, EACCES comes before EXDEV: EACCES where a layer denies a right that the step needs
+/// (making, removing), EXDEV where only REFER is denied at either directory or the entry would gain a right by the move.
+impl Tables {
+    /// Creates an entry in a directory and answers its number, the lowest that is free.
+    ///
+    /// Refusals, in order: tables not sound, EIO; thread not live, ESRCH; directory not live, ENOENT; not a directory, ENOTDIR;
+    /// unknown kind, EINVAL; making the kind denied, EACCES; no free entry or no object number left, ENOSPC.
+    ///
+    /// ```
+    /// # use skeinrabbit::*;
+    /// let mut tables = Tables::new(Level::LATEST)?;
+    /// let folder = tables.create(Thread::MAIN, Entry::ROOT, Kind::DIRECTORY)?;
+    /// let file = tables.create(Thread::MAIN, folder, Kind::REGULAR)?;
+    /// assert_eq!(file, Entry::new(2));
+    /// assert_eq!(tables.create(Thread::MAIN, file, Kind::REGULAR), Err(Errno::ENOTDIR));
+    /// # Ok::<(), Errno>(())
+    /// ```
+    pub fn create(&mut self, thread: Thread, directory: Entry, kind: Kind) -> Result<Entry, Errno> {
+        let (thread, directory) = (thread.number(), directory.number());
+        let raw = sys::create(&mut self.raw(), thread, directory, kind.number());
+        Errno::answer(raw).map(Entry::new)
+    }
+
+    /// Removes an entry.
+    ///
+    /// Refusals, in order: tables not sound, EIO; thread not live, ESRCH; entry not live, ENOENT; the root, EBUSY; removing the
+    /// kind denied at the parent, EACCES; directory not empty, ENOTEMPTY.
+    ///
+    /// ```
+    /// # use skeinrabbit::*;
+    /// let mut tables = Tables::new(Level::LATEST)?;
+    /// let file = tables.create(Thread::MAIN, Entry::ROOT, Kind::REGULAR)?;
+    /// assert_eq!(tables.remove(Thread::MAIN, file), Ok(()));
+    /// assert_eq!(tables.remove(Thread::MAIN, file), Err(Errno::ENOENT));
+    /// assert_eq!(tables.remove(Thread::MAIN, Entry::ROOT), Err(Errno::EBUSY));
+    /// # Ok::<(), Errno>(())
+    /// ```
+    pub fn remove(&mut self, thread: Thread, entry: Entry) -> Result<(), Errno> {
+        let raw = sys::remove(&mut self.raw(), thread.number(), entry.number());
+        Errno::answer(raw).map(drop)
+    }
+
+    /// Links an entry's object into a directory and answers the new entry, the lowest number that is free.
+    ///
+    /// Refusals, in order: tables not sound, EIO; thread not live, ESRCH; source or directory not live, ENOENT; the root as
+    /// source, EBUSY; not a directory, ENOTDIR; a directory as source, EPERM; making the kind denied, EACCES; into another
+    /// directory, REFER denied or rights widened, EXDEV; no free entry, ENOSPC.
+    ///
+    /// ```
+    /// # use skeinrabbit::*;
+    /// let mut tables = Tables::new(Level::LATEST)?;
+    /// let file = tables.create(Thread::MAIN, Entry::ROOT, Kind::REGULAR)?;
+    /// let link = tables.link(Thread::MAIN, file, Entry::ROOT)?;
+    /// let object = |entry| tables.entry(entry).map(|row| row.object);
+    /// assert_eq!(object(link), object(file));
+    /// # Ok::<(), Errno>(())
+    /// ```
+    pub fn link(
+        &mut self,
+        thread: Thread,
+        source: Entry,
+        directory: Entry,
+    ) -> Result<Entry, Errno> {
+        let (source, directory) = (source.number(), directory.number());
+        let raw = sys::link(&mut self.raw(), thread.number(), source, directory);
+        Errno::answer(raw).map(Entry::new)
+    }
+
+    /// Moves an entry to a directory, in place of `replaced` where there is one. The source keeps its number, and the replaced
+    /// entry's is free. Where both have one object nothing changes.
+    ///
+    /// Refusals, in order: tables not sound, EIO; thread not live, ESRCH; source, directory or replaced not live, ENOENT; the
+    /// root as source or replaced, EBUSY; not a directory, ENOTDIR; replaced no child of the directory, EINVAL; source equal to
+    /// the directory or above it, EINVAL; a need denied, EACCES; into another directory, REFER denied or rights widened, EXDEV;
+    /// a directory over something else, ENOTDIR, the reverse, EISDIR; replaced directory not empty, ENOTEMPTY.
+    ///
+    /// ```
+    /// # use skeinrabbit::*;
+    /// let mut tables = Tables::new(Level::LATEST)?;
+    /// let folder = tables.create(Thread::MAIN, Entry::ROOT, Kind::DIRECTORY)?;
+    /// let file = tables.create(Thread::MAIN, Entry::ROOT, Kind::REGULAR)?;
+    /// assert_eq!(tables.rename(Thread::MAIN, file, folder, None), Ok(()));
+    /// assert_eq!(tables.entry(file).map(|row| row.parent), Some(folder));
+    /// assert_eq!(tables.rename(Thread::MAIN, folder, folder, None), Err(Errno::EINVAL));
+    /// # Ok::<(), Errno>(())
+    /// ```
+    pub fn rename(
+        &mut self,
+        thread: Thread,
+        source: Entry,
+        directory: Entry,
+        replaced: Option<Entry>,
+    ) -> Result<(), Errno> {
+        let replaces = u64::from(replaced.is_some());
+        let entry = replaced.map_or(0, Entry::number);
+        let raw = sys::rename(
+            &mut self.raw(),
+            thread.number(),
+            source.number(),
+            directory.number(),
+            replaces,
+            entry,
+        );
+        Errno::answer(raw).map(drop)
+    }
+
+    /// Exchanges an entry with an entry of a directory. Where both have one object nothing changes.
+    ///
+    /// Refusals, in order: tables not sound, EIO; thread not live, ESRCH; any of the three not live, ENOENT; the root as source
+    /// or entry, EBUSY; not a directory, ENOTDIR; entry no child of the directory, EINVAL; source equal to the directory or
+    /// above it, EINVAL; entry equal to the source's parent or above it, EINVAL; a need denied, EACCES; with another directory,
+    /// REFER denied or rights of either widened, EXDEV.
+    ///
+    /// ```
+    /// # use skeinrabbit::*;
+    /// let mut tables = Tables::new(Level::LATEST)?;
+    /// let folder = tables.create(Thread::MAIN, Entry::ROOT, Kind::DIRECTORY)?;
+    /// let inner = tables.create(Thread::MAIN, folder, Kind::REGULAR)?;
+    /// let outer = tables.create(Thread::MAIN, Entry::ROOT, Kind::FIFO)?;
+    /// assert_eq!(tables.exchange(Thread::MAIN, inner, Entry::ROOT, outer), Ok(()));
+    /// assert_eq!(tables.entry(outer).map(|row| row.parent), Some(folder));
+    /// # Ok::<(), Errno>(())
+    /// ```
+    pub fn exchange(
+        &mut self,
+        thread: Thread,
+        source: Entry,
+        directory: Entry,
+        entry: Entry,
+    ) -> Result<(), Errno> {
+        let raw = sys::exchange(
+            &mut self.raw(),
+            thread.number(),
+            source.number(),
+            directory.number(),
+            entry.number(),
+        );
+        Errno::answer(raw).map(drop)
+    }
+}

@@ -1,0 +1,295 @@
+//! The tables as a caller sees them: any arguments, any cells, nothing lost.
+use skeinrabbit::*;
+
+type Call = fn(&mut Tables, [u64; 5]) -> Result<u64, Errno>;
+
+/// Every call over plain numbers.
+const CALLS: [Call; 17] = [
+    |t, [a, b, ..]| t.create_ruleset(&a.to_le_bytes(), b).map(Ruleset::number),
+    |t, [a, ..]| t.close_ruleset(a.into()).map(|()| 0),
+    |t, [a, b, c, d, _]| {
+        t.add_path_rule(a.into(), b.into(), Rights::from_bits(c), d)
+            .map(|()| 0)
+    },
+    |t, [a, b, c, d, _]| {
+        t.add_port_rule(a.into(), b, PortRights::from_bits(c), d)
+            .map(|()| 0)
+    },
+    |t, [a, b, c, ..]| t.restrict(a.into(), b.into(), c).map(|()| 0),
+    |t, [a, ..]| t.layer_rules(a.into()).map(|_| 0),
+    |t, [a, ..]| t.clone_thread(a.into()).map(Thread::number),
+    |t, [a, ..]| t.set_no_new_privs(a.into()).map(|()| 0),
+    |t, [a, b, ..]| t.set_admin(a.into(), b != 0).map(|()| 0),
+    |t, [a, b, c, ..]| {
+        t.access(a.into(), b.into(), Rights::from_bits(c))
+            .map(|()| 0)
+    },
+    |t, [a, b, c, ..]| t.port(a.into(), b, PortRights::from_bits(c)).map(|()| 0),
+    |t, [a, b, c, ..]| {
+        t.create(a.into(), b.into(), Kind::new(c))
+            .map(Entry::number)
+    },
+    |t, [a, b, ..]| t.remove(a.into(), b.into()).map(|()| 0),
+    |t, [a, b, c, ..]| t.link(a.into(), b.into(), c.into()).map(Entry::number),
+    |t, [a, b, c, ..]| t.rename(a.into(), b.into(), c.into(), None).map(|()| 0),
+    |t, [a, b, c, d, _]| {
+        t.rename(a.into(), b.into(), c.into(), Some(d.into()))
+            .map(|()| 0)
+    },
+    |t, [a, b, c, d, _]| {
+        t.exchange(a.into(), b.into(), c.into(), d.into())
+            .map(|()| 0)
+    },
+];
+
+/// Numbers that look random and are the same each time.
+struct Noise(u64);
+
+impl Noise {
+    fn next(&mut self) -> u64 {
+        self.0 = self
+            .0
+            .wrapping_mul(6364136223846793005)
+            .wrapping_add(1442695040888963407);
+        self.0 >> 20
+    }
+
+    fn of<T: Copy>(&mut self, choices: &[T]) -> T {
+        choices[self.next() as usize % choices.len()]
+    }
+}
+
+#[test]
+fn calls_keep_tables_sound_and_refusals_change_nothing() {
+    const SMALL: [u64; 12] = [0, 0, 0, 1, 1, 2, 3, 4, 5, 7, 8486, 65_535];
+    const ODD: [u64; 6] = [8, 16, 64, 1024, 1 << 63, u64::MAX];
+    let mut noise = Noise(3);
+    let mut refused = 0;
+    let mut tables = Tables::new(Level::LATEST).unwrap();
+    for round in 0..3000 {
+        if round % 500 == 0 {
+            tables.fresh(Level::new(noise.next() % 7)).unwrap();
+        }
+        let arguments = [(); 5].map(|()| match noise.next() % 12 {
+            0 => noise.of(&ODD),
+            _ => noise.of(&SMALL),
+        });
+        let before = tables.clone();
+        if let Err(errno) = noise.of(&CALLS)(&mut tables, arguments) {
+            assert!(
+                Errno::ALL.contains(&errno) && errno != Errno::EIO,
+                "{errno:?}"
+            );
+            assert_eq!(tables, before);
+            refused += 1;
+        }
+        assert!(tables.is_sound());
+    }
+    assert!((500..3000).contains(&refused), "{refused}");
+}
+
+#[test]
+fn unsound_tables_are_eio_for_every_call() {
+    let sound = Tables::new(Level::LATEST).unwrap().into_cells();
+    for (table, cell, value) in [
+        (Table::System, 0, 7),
+        (Table::System, 1, 0),
+        (Table::Entries, 0, 1),
+        (Table::Entries, 5, 1),
+        (Table::Rulesets, 195, 1),
+        (Table::Layers, 0, 1),
+        (Table::Pool, 3071, 1),
+        (Table::Threads, 0, 2),
+    ] {
+        let mut cells = sound.clone();
+        cells.table_mut(table)[cell] = value;
+        let mut tables = Tables::from_cells(cells.clone());
+        assert!(!tables.is_sound());
+        for call in CALLS {
+            assert_eq!(
+                call(&mut tables, [0, 0, 1, 0, 0]),
+                Err(Errno::EIO),
+                "{table:?} {cell}"
+            );
+        }
+        assert_eq!(tables.cells(), &cells);
+        assert_eq!(tables.fresh(Level::LATEST), Ok(()));
+        assert_eq!(tables.cells(), &sound);
+    }
+}
+
+#[test]
+fn any_cells_can_be_looked_at() {
+    let mut noise = Noise(4);
+    let mut cells = Cells::zeroed();
+    for table in Table::ALL {
+        for cell in cells.table_mut(table) {
+            *cell = noise.of(&[0, 1, 2, 3, 64, u64::MAX]);
+        }
+    }
+    let mut tables = Tables::from_cells(cells);
+    assert!(!tables.is_sound());
+    assert!(tables.entries().count() <= 1024);
+    assert!(tables
+        .open_rulesets()
+        .all(|row| row.rules.iter().count() <= 64));
+    assert!(tables.layers().count() <= 64);
+    for thread in 0..9 {
+        assert!(tables.domain(Thread::new(thread)).count() <= 16);
+    }
+    assert_eq!(tables.entry(Entry::new(u64::MAX)), None);
+    assert_eq!(tables.open_ruleset(Ruleset::new(u64::MAX)), None);
+    assert!(!format!("{tables:?} {:?}", tables.cells()).is_empty());
+}
+
+#[test]
+fn tables_have_their_sizes() {
+    let cells = Cells::zeroed();
+    let sizes = Table::ALL.map(|table| cells.table(table).len());
+    assert_eq!(sizes, [4, 3072, 3136, 384, 3072, 32]);
+    assert_eq!(Table::ALL.map(Table::size), sizes);
+    for table in Table::ALL {
+        assert_eq!(table.name().parse(), Ok(table));
+    }
+}
+
+#[test]
+fn fresh_tables_are_as_the_paper_says() {
+    for level in 0..=6 {
+        let tables = Tables::new(Level::new(level)).unwrap();
+        let mut expected = Cells::zeroed();
+        expected.system[0] = level;
+        expected.system[1] = 1;
+        expected.entries[0] = 2;
+        expected.threads[0] = 1;
+        assert_eq!(tables.cells(), &expected);
+    }
+    assert_eq!(Tables::new(Level::new(7)), Err(Errno::EINVAL));
+    assert_eq!(Tables::new(Level::new(u64::MAX)), Err(Errno::EINVAL));
+}
+
+/// Tables with a layer of two rules below one with none.
+fn layered() -> Tables {
+    let mut tables = Tables::new(Level::LATEST).unwrap();
+    tables.set_admin(Thread::MAIN, true).unwrap();
+    let open = tables
+        .ruleset()
+        .handle_fs(Rights::ALL)
+        .handle_net(PortRights::ALL)
+        .create()
+        .unwrap();
+    let open = open.add_port(80, PortRights::BIND_TCP).unwrap();
+    let open = open.add_path(Entry::ROOT, Rights::READ_DIR).unwrap();
+    drop(open.restrict(Thread::MAIN).unwrap());
+    let open = tables.ruleset().scope(Scopes::SIGNAL).create().unwrap();
+    drop(open.restrict(Thread::MAIN).unwrap());
+    tables
+}
+
+#[test]
+fn the_rules_of_a_layer_are_a_part_of_the_pool() {
+    let mut tables = layered();
+    let pool = tables.cells().pool.as_ptr_range();
+    let rules = tables.layer_rules(Layer::new(0)).unwrap();
+    assert!(pool.contains(&rules.cells().as_ptr()));
+    assert_eq!(rules.cells(), [2, 80, 1, 1, 0, 8]);
+    assert_eq!(rules.len(), 2);
+    let port = Rule::Port {
+        port: 80,
+        rights: PortRights::BIND_TCP,
+    };
+    let path = Rule::Path {
+        object: 0,
+        rights: Rights::READ_DIR,
+    };
+    assert_eq!(rules.into_iter().collect::<Vec<Rule>>(), [port, path]);
+    assert!(tables.layer_rules(Layer::new(1)).unwrap().is_empty());
+    for layer in [2, 64, u64::MAX] {
+        assert_eq!(tables.layer_rules(Layer::new(layer)), Err(Errno::EBADF));
+    }
+}
+
+#[test]
+fn rows_show_what_the_calls_made() {
+    let mut tables = layered();
+    let layers: Vec<LayerRow> = tables.domain(Thread::MAIN).collect();
+    assert_eq!(
+        layers
+            .iter()
+            .map(|row| row.layer.number())
+            .collect::<Vec<u64>>(),
+        [1, 0]
+    );
+    assert_eq!(layers[0].parent, Some(Layer::new(0)));
+    assert_eq!(layers[0].attribute.scope, Scopes::SIGNAL);
+    assert_eq!(layers[1].attribute.fs, Rights::ALL);
+    let attribute = Attribute {
+        fs: Rights::EXECUTE,
+        net: PortRights::CONNECT_TCP,
+        scope: Scopes::NONE,
+    };
+    let ruleset = tables.create_ruleset(&attribute.to_bytes(), 0).unwrap();
+    tables
+        .add_port_rule(ruleset, 9, PortRights::CONNECT_TCP, 0)
+        .unwrap();
+    let row = tables.open_ruleset(ruleset).unwrap();
+    assert_eq!((row.attribute, row.rules.len()), (attribute, 1));
+    let main = tables.thread(Thread::MAIN).unwrap();
+    assert_eq!(
+        (main.youngest, main.admin, main.no_new_privs),
+        (Some(Layer::new(1)), true, false)
+    );
+}
+
+#[test]
+fn cells_go_out_and_come_back() {
+    let tables = layered();
+    let mut again = Tables::from_cells(tables.clone().into_cells());
+    assert_eq!(again, tables);
+    assert!(again.is_sound());
+}
+
+#[test]
+fn an_open_ruleset_is_closed_when_it_goes() {
+    let mut tables = Tables::new(Level::LATEST).unwrap();
+    let open = tables
+        .ruleset()
+        .handle_fs(Rights::READ_FILE)
+        .create()
+        .unwrap();
+    assert_eq!(
+        open.add_path(Entry::new(9), Rights::READ_FILE).err(),
+        Some(Errno::EBADF)
+    );
+    assert_eq!(tables.open_rulesets().count(), 0);
+    let kept = tables
+        .ruleset()
+        .handle_fs(Rights::READ_FILE)
+        .create()
+        .unwrap()
+        .keep();
+    assert_eq!(
+        tables
+            .open_rulesets()
+            .map(|row| row.ruleset)
+            .collect::<Vec<_>>(),
+        [kept]
+    );
+}
+
+#[test]
+fn a_replaced_entry_is_told_from_none() {
+    let mut tables = Tables::new(Level::LATEST).unwrap();
+    let file = tables
+        .create(Thread::MAIN, Entry::ROOT, Kind::REGULAR)
+        .unwrap();
+    let rename =
+        |tables: &mut Tables, replaced| tables.rename(Thread::MAIN, file, Entry::ROOT, replaced);
+    assert_eq!(rename(&mut tables, None), Ok(()));
+    assert_eq!(rename(&mut tables, Some(Entry::ROOT)), Err(Errno::EBUSY));
+    assert_eq!(
+        rename(&mut tables, Some(Entry::new(u64::MAX))),
+        Err(Errno::ENOENT)
+    );
+    assert_eq!(rename(&mut tables, Some(file)), Ok(()));
+}

@@ -1,0 +1,96 @@
+/*
+ * Makes every call of the header once and compares its answer with document 01's. Two files include the header: the request
+ * that is made from the other one must see the same tables.
+ */
+#include <stdio.h>
+
+#include "skeinrabbit.h"
+
+int64_t request_from_other_file(struct skein_tables *t, uint64_t entry, uint64_t rights);
+
+static struct skein_tables tables;
+static int differences;
+
+static void expect(const char *call, int64_t answer, int64_t expected)
+{
+	if (answer != expected) {
+		printf("%s answered %lld, expected %lld\n", call, (long long)answer, (long long)expected);
+		differences++;
+	}
+}
+
+static void ruleset_calls(struct skein_tables *t)
+{
+	const struct skein_ruleset_attr attr = { SKEIN_FS_READ_FILE | SKEIN_FS_MAKE_SOCK, SKEIN_NET_BIND_TCP, SKEIN_SCOPE_SIGNAL };
+	const uint8_t zeros[SKEIN_MAX_ATTR_SIZE + 1] = { 0 };
+
+	expect("create_ruleset, no bytes", skeinrabbit_create_ruleset(t, NULL, 0, 0), -SKEIN_EINVAL);
+	expect("create_ruleset, 4,097 bytes", skeinrabbit_create_ruleset(t, zeros, sizeof(zeros), 0), -SKEIN_E2BIG);
+	expect("create_ruleset, zeros", skeinrabbit_create_ruleset(t, zeros, sizeof(attr), 0), -SKEIN_ENOMSG);
+	expect("create_ruleset", skeinrabbit_create_ruleset(t, &attr, sizeof(attr), 0), 0);
+	expect("add_path_rule", skeinrabbit_add_path_rule(t, 0, 1, SKEIN_FS_READ_FILE, 0), 0);
+	expect("add_path_rule, REFER not asked", skeinrabbit_add_path_rule(t, 0, 1, SKEIN_FS_REFER, 0), -SKEIN_EINVAL);
+	expect("add_port_rule", skeinrabbit_add_port_rule(t, 0, SKEIN_MAX_PORT, SKEIN_NET_BIND_TCP, 0), 0);
+	expect("add_port_rule, too high", skeinrabbit_add_port_rule(t, 0, 65536, SKEIN_NET_BIND_TCP, 0), -SKEIN_EINVAL);
+}
+
+static void domain_calls(struct skein_tables *t)
+{
+	const uint64_t *rules = NULL;
+	size_t cells = 99;
+
+	expect("restrict, no mark", skeinrabbit_restrict(t, 0, 0, 0), -SKEIN_EPERM);
+	expect("clone", skeinrabbit_clone(t, SKEIN_FIRST_THREAD), 1);
+	expect("set_admin", skeinrabbit_set_admin(t, 1, 1), 0);
+	expect("set_no_new_privs", skeinrabbit_set_no_new_privs(t, 1), 0);
+	expect("set_no_new_privs, not live", skeinrabbit_set_no_new_privs(t, 2), -SKEIN_ESRCH);
+	expect("restrict", skeinrabbit_restrict(t, 1, 0, 0), 0);
+	expect("close_ruleset", skeinrabbit_close_ruleset(t, 0), 0);
+	expect("close_ruleset, again", skeinrabbit_close_ruleset(t, 0), -SKEIN_EBADF);
+	expect("layer_rules", skeinrabbit_layer_rules(t, 0, &rules, &cells), 0);
+	expect("layer_rules: cells", (int64_t)cells, 2 * SKEIN_RULE_CELLS);
+	expect("layer_rules: second key", (int64_t)rules[SKEIN_RULE_CELLS + 1], SKEIN_MAX_PORT);
+	expect("layer_rules, not in use", skeinrabbit_layer_rules(t, 1, &rules, &cells), -SKEIN_EBADF);
+	expect("layer_rules, not in use: cells", (int64_t)cells, 0);
+}
+
+static void requests(struct skein_tables *t)
+{
+	expect("access", skeinrabbit_access(t, 1, 2, SKEIN_FS_READ_FILE), 0);
+	expect("access, denied", skeinrabbit_access(t, 1, SKEIN_ROOT, SKEIN_FS_READ_FILE), -SKEIN_EACCES);
+	expect("access from the other file", request_from_other_file(t, 2, SKEIN_FS_READ_FILE), 0);
+	expect("access from the other file, denied", request_from_other_file(t, 3, SKEIN_FS_READ_FILE), -SKEIN_EACCES);
+	expect("port", skeinrabbit_port(t, 1, SKEIN_MAX_PORT, SKEIN_NET_BIND_TCP), 0);
+	expect("port, denied", skeinrabbit_port(t, 1, 80, SKEIN_NET_BIND_TCP), -SKEIN_EACCES);
+}
+
+static void tree_calls(struct skein_tables *t)
+{
+	expect("create, denied", skeinrabbit_create(t, 1, 1, SKEIN_KIND_SOCKET), -SKEIN_EACCES);
+	expect("create, unknown kind", skeinrabbit_create(t, 1, 1, 8), -SKEIN_EINVAL);
+	expect("link", skeinrabbit_link(t, 0, 2, SKEIN_ROOT), 4);
+	expect("link, REFER denied", skeinrabbit_link(t, 1, 2, SKEIN_ROOT), -SKEIN_EXDEV);
+	expect("rename", skeinrabbit_rename(t, 0, 2, SKEIN_ROOT, 0, 0), 0);
+	expect("rename over its own link", skeinrabbit_rename(t, 0, 2, SKEIN_ROOT, 1, 4), 0);
+	expect("rename, file over directory", skeinrabbit_rename(t, 0, 2, SKEIN_ROOT, 1, 1), -SKEIN_EISDIR);
+	expect("exchange", skeinrabbit_exchange(t, 0, 3, SKEIN_ROOT, 2), 0);
+	expect("remove, root", skeinrabbit_remove(t, 0, SKEIN_ROOT), -SKEIN_EBUSY);
+	expect("remove", skeinrabbit_remove(t, 0, 4), 0);
+}
+
+int main(void)
+{
+	struct skein_tables *const t = &tables;
+
+	expect("access, tables of zeros", skeinrabbit_access(t, 0, SKEIN_ROOT, SKEIN_FS_READ_FILE), -SKEIN_EIO);
+	expect("fresh, level 7", skeinrabbit_fresh(t, SKEIN_MAX_LEVEL + 1), -SKEIN_EINVAL);
+	expect("fresh", skeinrabbit_fresh(t, SKEIN_MAX_LEVEL), 0);
+	expect("create", skeinrabbit_create(t, 0, SKEIN_ROOT, SKEIN_KIND_DIRECTORY), 1);
+	expect("create", skeinrabbit_create(t, 0, 1, SKEIN_KIND_REGULAR), 2);
+	expect("create", skeinrabbit_create(t, 0, SKEIN_ROOT, SKEIN_KIND_REGULAR), 3);
+	ruleset_calls(t);
+	domain_calls(t);
+	requests(t);
+	tree_calls(t);
+	return differences == 0 ? 0 : 1;
+}
