@@ -1,14 +1,20 @@
-// What the benchmark in rust/bench measures, exported for it: the rule scan, the climb and the soundness test.
+// What the benchmark in rust/bench measures, exported for it: the rule scan, the climb, the verdicts and the soundness test.
 use access::limits::MAX_ENTRIES;
 use access::rights::Rights;
 use tables::rows::PATH_RULE;
+use tree::Replaced;
 ghost use mathlib.Core.Path.{_≡_};
 ghost use mathlib.Core.Bool.{cond};
 ghost use Rattle.access.specs.Rights.{without};
-ghost use Rattle.access.specs.Limits.{maxEntries};
+ghost use Rattle.laws.specs.Refusals.{first};
+ghost use Rattle.access.specs.Limits.{maxEntries, maxDomain};
 ghost use Rattle.tables.specs.Tables.{before, pathRule};
 ghost use Rattle.judge.specs.Rules.{rightsOn};
 ghost use Rattle.judge.specs.Judge.{grants};
+ghost use Rattle.judge.specs.Domain.{chain, domain, lacks};
+ghost use Rattle.fs.specs.Move.{verdict};
+ghost use Rattle.tree.specs.declared.Replaced.the-variants.{None};
+ghost use Rattle.tree.specs.Moves.{renameMove};
 ghost use Rattle.sound.specs.Sound.{sound};
 
 #[no_mangle]
@@ -23,6 +29,40 @@ pub extern "C" fn skein_measure_missing(entries: &[u64], rules: &[u64], e: u64, 
     ensures { λ r. ⌜ r ≡ without asked (grants (now (entries .entry)) (now (rules .entry)) maxEntries e) ⌝ }
 {
     judge::climb::missing_up(entries, rules, e, Rights(asked), MAX_ENTRIES).0
+}
+
+#[no_mangle]
+pub extern "C" fn skein_measure_lacks(
+    entries: &[u64],
+    layers: &[u64],
+    pool: &[u64],
+    y: u64,
+    e: u64,
+    asked: u64,
+) -> u64
+    ensures { λ r. ⌜ r ≡ cond (lacks (now (entries .entry)) (now (layers .entry)) (now (pool .entry)) (chain (now (layers .entry)) maxDomain y) e asked) 1 0 ⌝ }
+{
+    if judge::domain::domain_lacks(entries, layers, pool, y, e, Rights(asked)) {
+        1
+    } else {
+        0
+    }
+}
+
+#[no_mangle]
+pub extern "C" fn skein_measure_rename(
+    entries: &[u64],
+    layers: &[u64],
+    pool: &[u64],
+    threads: &[u64],
+    t: u64,
+    s: u64,
+    d: u64,
+) -> u64
+    ensures { λ r. ⌜ r ≡ first (verdict (now (entries .entry)) (now (layers .entry)) (now (pool .entry)) (domain (now (layers .entry)) (now (threads .entry)) t) (renameMove (now (entries .entry)) s d None)) ⌝ }
+{
+    let m = tree::moves::rename_move(entries, s, d, Replaced::None);
+    tree::moves::thread_verdict(entries, layers, pool, threads, t, m)
 }
 
 #[no_mangle]

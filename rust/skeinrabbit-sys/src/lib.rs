@@ -17,36 +17,61 @@ pub struct Cells<'a> {
 /// The cells of each table, in the order of the fields of [`Cells`].
 pub const SIZES: [usize; 6] = [4, 1024 * 3, 16 * 196, 64 * 6, 1024 * 3, 8 * 4];
 
+/// Declares exports: each takes the six tables, as pointers and lengths, before its own arguments.
+macro_rules! exports {
+    ($($export:ident($($arg:ident: $type:ty),*);)*) => {
+        extern "C" {
+            $(fn $export(
+                system: *mut u64,
+                system_len: usize,
+                entries: *mut u64,
+                entries_len: usize,
+                rulesets: *mut u64,
+                rulesets_len: usize,
+                layers: *mut u64,
+                layers_len: usize,
+                pool: *mut u64,
+                pool_len: usize,
+                threads: *mut u64,
+                threads_len: usize,
+                $($arg: $type),*
+            ) -> u64;)*
+        }
+    };
+}
+
+/// Calls an export with the six tables and its own arguments.
+macro_rules! pass {
+    ($export:ident, $tables:ident, $($value:expr),*) => {
+        // The pointers and lengths are those of slices that nothing else holds meanwhile.
+        unsafe {
+            $export(
+                $tables.system.as_mut_ptr(),
+                $tables.system.len(),
+                $tables.entries.as_mut_ptr(),
+                $tables.entries.len(),
+                $tables.rulesets.as_mut_ptr(),
+                $tables.rulesets.len(),
+                $tables.layers.as_mut_ptr(),
+                $tables.layers.len(),
+                $tables.pool.as_mut_ptr(),
+                $tables.pool.len(),
+                $tables.threads.as_mut_ptr(),
+                $tables.threads.len(),
+                $($value),*
+            )
+        }
+    };
+}
+
+/// The calls whose arguments are all numbers.
 macro_rules! calls {
     ($($(#[$doc:meta])* $export:ident, $name:ident($($arg:ident),*);)*) => {
-        mod exported {
-            extern "C" {
-                $(pub fn $export(
-                    system: *mut u64, system_len: usize,
-                    entries: *mut u64, entries_len: usize,
-                    rulesets: *mut u64, rulesets_len: usize,
-                    layers: *mut u64, layers_len: usize,
-                    pool: *mut u64, pool_len: usize,
-                    threads: *mut u64, threads_len: usize,
-                    $($arg: u64),*
-                ) -> u64;)*
-            }
-        }
+        exports! { $($export($($arg: u64),*);)* }
 
         $($(#[$doc])*
         pub fn $name(tables: &mut Cells $(, $arg: u64)*) -> u64 {
-            // The pointers and lengths are those of six slices that nothing else holds meanwhile.
-            unsafe {
-                exported::$export(
-                    tables.system.as_mut_ptr(), tables.system.len(),
-                    tables.entries.as_mut_ptr(), tables.entries.len(),
-                    tables.rulesets.as_mut_ptr(), tables.rulesets.len(),
-                    tables.layers.as_mut_ptr(), tables.layers.len(),
-                    tables.pool.as_mut_ptr(), tables.pool.len(),
-                    tables.threads.as_mut_ptr(), tables.threads.len(),
-                    $($arg),*
-                )
-            }
+            pass!($export, tables, $($arg),*)
         })*
     };
 }
@@ -84,87 +109,29 @@ calls! {
     skein_exchange, exchange(thread, source, directory, entry);
 }
 
-extern "C" {
-    fn skein_create_ruleset(
-        system: *mut u64,
-        system_len: usize,
-        entries: *mut u64,
-        entries_len: usize,
-        rulesets: *mut u64,
-        rulesets_len: usize,
-        layers: *mut u64,
-        layers_len: usize,
-        pool: *mut u64,
-        pool_len: usize,
-        threads: *mut u64,
-        threads_len: usize,
-        bytes: *const u8,
-        bytes_len: usize,
-        flags: u64,
-    ) -> u64;
-    fn skein_layer_rules(
-        system: *mut u64,
-        system_len: usize,
-        entries: *mut u64,
-        entries_len: usize,
-        rulesets: *mut u64,
-        rulesets_len: usize,
-        layers: *mut u64,
-        layers_len: usize,
-        pool: *mut u64,
-        pool_len: usize,
-        threads: *mut u64,
-        threads_len: usize,
-        layer: u64,
-        part: *mut u64,
-        part_len: usize,
-    ) -> u64;
+exports! {
+    skein_create_ruleset(bytes: *const u8, bytes_len: usize, flags: u64);
+    skein_layer_rules(layer: u64, part: *mut u64, part_len: usize);
 }
 
 /// Opens a ruleset from the bytes of its attribute; answers its number.
 pub fn create_ruleset(tables: &mut Cells, bytes: &[u8], flags: u64) -> u64 {
-    // As above; the bytes are only read.
-    unsafe {
-        skein_create_ruleset(
-            tables.system.as_mut_ptr(),
-            tables.system.len(),
-            tables.entries.as_mut_ptr(),
-            tables.entries.len(),
-            tables.rulesets.as_mut_ptr(),
-            tables.rulesets.len(),
-            tables.layers.as_mut_ptr(),
-            tables.layers.len(),
-            tables.pool.as_mut_ptr(),
-            tables.pool.len(),
-            tables.threads.as_mut_ptr(),
-            tables.threads.len(),
-            bytes.as_ptr(),
-            bytes.len(),
-            flags,
-        )
-    }
+    pass!(
+        skein_create_ruleset,
+        tables,
+        bytes.as_ptr(),
+        bytes.len(),
+        flags
+    )
 }
 
 /// Where a layer's rules stand in the pool: the first cell and the number of cells, written to `part`; zeros with a refusal.
 pub fn layer_rules(tables: &mut Cells, layer: u64, part: &mut [u64; 2]) -> u64 {
-    // As above; the two cells are the caller's own.
-    unsafe {
-        skein_layer_rules(
-            tables.system.as_mut_ptr(),
-            tables.system.len(),
-            tables.entries.as_mut_ptr(),
-            tables.entries.len(),
-            tables.rulesets.as_mut_ptr(),
-            tables.rulesets.len(),
-            tables.layers.as_mut_ptr(),
-            tables.layers.len(),
-            tables.pool.as_mut_ptr(),
-            tables.pool.len(),
-            tables.threads.as_mut_ptr(),
-            tables.threads.len(),
-            layer,
-            part.as_mut_ptr(),
-            part.len(),
-        )
-    }
+    pass!(
+        skein_layer_rules,
+        tables,
+        layer,
+        part.as_mut_ptr(),
+        part.len()
+    )
 }
