@@ -8,10 +8,10 @@ ghost use Rattle.tables.specs.Fresh.{freshened};
 ghost use Rattle.tables.specs.Outcome.{outcome};
 ghost use Rattle.ruleset.specs.Create.{created, closed};
 ghost use Rattle.rule.specs.Rule.{pathAdded, portAdded};
-ghost use Rattle.domain.specs.Restrict.{restrictCall};
+ghost use Rattle.domain_restrict.specs.Restrict.{restrictCall};
 ghost use Rattle.domain.specs.Layer.{layerCode, layerPart};
 ghost use Rattle.domain.specs.Threads.{cloned, privsSet, adminSet};
-ghost use Rattle.fs.specs.Access.{accessCall};
+ghost use Rattle.fs_access.specs.Access.{accessCall};
 ghost use Rattle.net.specs.Port.{portCall};
 
 // Makes fresh tables at a level, whatever they held: EIO for a wrong length, EINVAL for a level above 6.
@@ -173,7 +173,7 @@ pub fn restrict(
     if !sound::is_sound(system, entries, rulesets, layers, pool, threads) {
         return Reply::Refused(Errno::EIO);
     }
-    domain::restrict::restrict(
+    domain_restrict::restrict(
         system,
         entries,
         rulesets,
@@ -258,7 +258,7 @@ pub fn access(
     if !sound::is_sound(system, entries, rulesets, layers, pool, threads) {
         return Reply::Refused(Errno::EIO);
     }
-    fs::access_request::access(
+    fs_access::access(
         system,
         entries,
         rulesets,

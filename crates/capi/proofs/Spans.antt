@@ -1,6 +1,5 @@
 -- The span that `skein_layer_rules` writes is where the layer's rules stand in the pool. Assumes nothing.
-use mathlib.Core.Path.{_≡_, refl, ap, _∙_}
-use mathlib.Core.Bool.{Bool, true, false}
+use mathlib.Core.Path.{_≡_, refl, ap}
 use mathlib.Core.List.{List, [], _∷_}
 use Prim.Native.Nat.{ℕ, zero, suc, _+_, _-_, _*_, min}
 use native.Mathlib.Nat.{zero-min, min-zero, suc-min-suc}

@@ -1,4 +1,3 @@
 // The calls on threads and layers: the tests of each, in order, and the change that it makes.
 pub mod layer;
-pub mod restrict;
 pub mod threads;

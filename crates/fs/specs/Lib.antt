@@ -1,4 +1,3 @@
--- Requests on paths: access, and the verdict on link, rename and exchange.
-pub mod Access
+-- The verdict on link, rename and exchange.
 pub mod Needs
 pub mod Move

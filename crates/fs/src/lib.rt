@@ -1,4 +1,3 @@
-// Requests on paths: access, and the verdict on link, rename and exchange.
-pub mod access_request;
+// The needs of link, rename and exchange, and the verdict on them.
 pub mod needs;
 pub mod verdict;

@@ -19,7 +19,7 @@ use Rattle.tables.specs.Layers.{rulesetCount, rulesetFrom, rulesetTo, rulesetAt
 use Rattle.sound_rules.proofs.Facts.{rules-sound, masks-known}
 use Rattle.sound_rulesets.proofs.Facts.{OpenRuleset}
 use Rattle.sound_layers.proofs.Facts.{UsedLayer, Layers}
-use Rattle.domain.specs.Restrict.{layerRow}
+use Rattle.domain_restrict.specs.Restrict.{layerRow}
 use Rattle.kept_domains.proofs.Rows.{HasRow, has-row, reads, SameRow, part-moved}
 
 -- ---- the layers with a row for ruleset r, its rules from `taken` on, below the layer that y names

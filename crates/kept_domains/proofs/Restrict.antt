@@ -22,8 +22,8 @@ use Rattle.sound_domains.proofs.Chains.{chain-up}
 use Rattle.sound_domains.proofs.Facts.{LiveThread, Threads}
 use Rattle.sound.specs.Sound.{sound}
 use Rattle.sound.proofs.Facts.{Sound, facts, sound-of}
-use Rattle.domain.specs.Restrict.{restrictForm, isDeep, restrictRoom, restrictChecks, counted, restricted, restrictDone, restrictCall}
-use Rattle.domain.proofs.Room.{roomy}
+use Rattle.domain_restrict.specs.Restrict.{restrictForm, isDeep, restrictRoom, restrictChecks, counted, restricted, restrictDone, restrictCall}
+use Rattle.domain_restrict.proofs.Room.{roomy}
 use Rattle.sound.proofs.Calls.{kept-call}
 use Rattle.kept_domains.proofs.Rows.{has-row, row-past, row-beside}
 use Rattle.kept_domains.proofs.Threads.{live-below, threads-changed}

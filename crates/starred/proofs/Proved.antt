@@ -26,9 +26,9 @@ use Rattle.judge.specs.Domain.{chain, domain, layerLacks, lacks}
 use Rattle.ruleset.specs.Attribute.{number, knownSize, strayByte, stray}
 use Rattle.ruleset.specs.Create.{freeRuleset, createForm, createMasks, createChecks, opened, createDone, created}
 use Rattle.rule.specs.Rule.{addForm, isFull, pathForm, addPathChecks, appended, added, addDone, pathAdded}
-use Rattle.domain.specs.Restrict.{unmarked, restrictForm, isDeep, noRoom, restrictRoom, restrictChecks, layerRow, counted, restricted, restrictDone, restrictCall}
+use Rattle.domain_restrict.specs.Restrict.{unmarked, restrictForm, isDeep, noRoom, restrictRoom, restrictChecks, layerRow, counted, restricted, restrictDone, restrictCall}
 use Rattle.domain.specs.Threads.{markChecks, markDone, privsSet}
-use Rattle.fs.specs.Access.{accessNames, accessMask, accessChecks, accessCall}
+use Rattle.fs_access.specs.Access.{accessNames, accessMask, accessChecks, accessCall}
 use Rattle.fs.specs.Needs.{sourceNeeds, targetNeeds}
 use Rattle.fs.specs.Move.{entryRights, deniedNeeds, deniedRefer, uncontained, escaping, crossing, layerDenies, layerCrosses, verdict}
 use Rattle.tree.specs.Entries.{freeEntry, unknownKind, above, replacing, putEntry, putParent, withEntries}

@@ -9,7 +9,7 @@ use Rattle.tables.specs.Fresh.{freshTables}
 use Rattle.sound.specs.Sound.{sound}
 use Rattle.sound.proofs.Calls.{kept-call}
 use Rattle.sound.proofs.Fresh.{fresh-sound}
-use Rattle.fs.specs.Access.{accessCall}
+use Rattle.fs_access.specs.Access.{accessCall}
 use Rattle.net.specs.Port.{portCall}
 use Rattle.kept_rulesets.proofs.Create.{kept-created, kept-closed}
 use Rattle.kept_rulesets.proofs.Add.{kept-path-added, kept-port-added}

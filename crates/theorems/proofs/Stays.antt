@@ -29,10 +29,10 @@ use Rattle.sound.specs.Call.{call}
 use Rattle.sound.proofs.Facts.{Sound, facts}
 use Rattle.ruleset.specs.Create.{createDone, created, closeDone, closed}
 use Rattle.rule.specs.Rule.{addDone, pathAdded, portAdded}
-use Rattle.domain.specs.Restrict.{restrictForm, isDeep, restrictRoom, restrictChecks, counted, restricted, restrictDone, restrictCall}
+use Rattle.domain_restrict.specs.Restrict.{restrictForm, isDeep, restrictRoom, restrictChecks, counted, restricted, restrictDone, restrictCall}
 use Rattle.domain.specs.Threads.{freeThread, cloneChecks, copiedThread, cloneDone, cloned, markDone, privsSet, adminSet}
-use Rattle.domain.proofs.Room.{roomy}
-use Rattle.fs.specs.Access.{accessCall}
+use Rattle.domain_restrict.proofs.Room.{roomy}
+use Rattle.fs_access.specs.Access.{accessCall}
 use Rattle.net.specs.Port.{portCall}
 use Rattle.tree.specs.Create.{treeCreated, treeCreate, treeRemove}
 use Rattle.tree.specs.Link.{treeLink}

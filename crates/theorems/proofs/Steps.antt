@@ -21,12 +21,12 @@ use Rattle.sound.specs.Call.{call}
 use Rattle.sound.proofs.Facts.{facts}
 use Rattle.judge.specs.Judge.{handled}
 use Rattle.fs.specs.Move.{entryRights, layerCrosses, verdict}
-use Rattle.fs.specs.Access.{accessCall}
+use Rattle.fs_access.specs.Access.{accessCall}
 use Rattle.fs.specs.declared.needs.Step.the-variants.{Rename, Exchange}
 use Rattle.net.specs.Port.{portCall}
 use Rattle.ruleset.specs.Create.{created, createDone, closed, closeDone}
 use Rattle.rule.specs.Rule.{pathAdded, portAdded, addDone}
-use Rattle.domain.specs.Restrict.{restrictCall, restrictDone, restricted}
+use Rattle.domain_restrict.specs.Restrict.{restrictCall, restrictDone, restricted}
 use Rattle.domain.specs.Threads.{cloned, cloneDone, privsSet, adminSet, markDone}
 use Rattle.tree.specs.declared.Replaced.{Replaced}
 use Rattle.tree.specs.declared.Replaced.the-variants.{None, Entry}

@@ -13,9 +13,9 @@ use Rattle.tables.specs.Outcome.{Outcome, outcome}
 use Rattle.sound.specs.Call.{call}
 use Rattle.ruleset.specs.Create.{created, closed}
 use Rattle.rule.specs.Rule.{pathAdded, portAdded}
-use Rattle.domain.specs.Restrict.{restrictCall}
+use Rattle.domain_restrict.specs.Restrict.{restrictCall}
 use Rattle.domain.specs.Threads.{cloned, privsSet, adminSet}
-use Rattle.fs.specs.Access.{accessCall}
+use Rattle.fs_access.specs.Access.{accessCall}
 use Rattle.net.specs.Port.{portCall}
 use Rattle.tree.specs.declared.Replaced.{Replaced}
 use Rattle.tree.specs.Entries.{replacing, sameObject}

@@ -2,8 +2,8 @@
 use access::errno::Errno;
 use access::errno::Reply;
 use access::kinds::Kind;
-use fs::access_request::is_denied;
 use fs::needs::remove_of;
+use fs_access::is_denied;
 use tables::rows::entry_live;
 use tables::rows::kind_of;
 use tables::rows::parent_of;

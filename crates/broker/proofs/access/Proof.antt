@@ -1,6 +1,6 @@
 -- Assumes nothing.
 use Rattle.sound.proofs.Calls.{call-unsound, call-passes}
-use Rattle.fs.specs.Access.{accessCall}
+use Rattle.fs_access.specs.Access.{accessCall}
 use Rattle.broker.proofs.access.Statement.{statement}
 use Rattle.broker.proofs.access.Tie as tie
 

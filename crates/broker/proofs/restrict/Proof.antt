@@ -1,7 +1,7 @@
 -- Assumes nothing.
 use borrow.Author.Needs.{needs}
 use Rattle.sound.proofs.Calls.{call-unsound, call-passes}
-use Rattle.domain.specs.Restrict.{restrictCall}
+use Rattle.domain_restrict.specs.Restrict.{restrictCall}
 use Rattle.broker.proofs.restrict.Statement.{statement}
 use Rattle.broker.proofs.restrict.Tie as tie
 

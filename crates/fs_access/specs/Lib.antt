@@ -1,0 +1,2 @@
+-- Access requests.
+pub mod Access
