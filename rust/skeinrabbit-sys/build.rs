@@ -6,7 +6,10 @@ fn main() {
     let archive = dir.join("libcapi.a");
     println!("cargo:rerun-if-changed={}", archive.display());
     if !archive.exists() {
-        println!("cargo:warning=the archive is missing: run `rt staticlib capi` at the top of the repository first");
+        eprintln!(
+            "{} is missing: run `rt staticlib capi` at the top of the repository first",
+            archive.display()
+        );
         std::process::exit(1);
     }
     println!("cargo:rustc-link-search=native={}", dir.display());
