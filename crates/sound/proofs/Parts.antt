@@ -1,9 +1,11 @@
 -- How code comes to the soundness test from its parts. Assumes nothing.
 use mathlib.Core.Path.{_≡_, sym, _∙_}
 use mathlib.Core.Bool.{Bool, true, false, not}
+use Prim.Native.Nat.{_*_}
 use lib.ListN.{length}
 use borrow.Author.Tests.{eq-eqb, not-true, not-false}
-use Rattle.tables.specs.Tables.{Tables, lengthsRight}
+use Rattle.access.specs.Limits.{maxEntries}
+use Rattle.tables.specs.Tables.{Tables, lengthsRight, entryWidth}
 use Rattle.tables.proofs.Lengths.{lengths}
 use Rattle.sound_tree.specs.Tree.{entriesTest}
 use Rattle.sound_rulesets.specs.Rulesets.{rulesetsTest}
@@ -26,3 +28,7 @@ module _ (T : Tables) where
   pub sound-long : {b r : Bool} → b ≡ lengthsRight T → not b ≡ false → r ≡ partsTest T → r ≡ sound T
   unfolding sound
   sound-long {b} q p k = let h : lengthsRight T ≡ true = sym q ∙ not-false b p in rw h (k ∙ parts T h)
+
+  -- the entries have their length there
+  pub entries-long : {b : Bool} → b ≡ lengthsRight T → not b ≡ false → length (T .entries) ≡ entryWidth * maxEntries
+  entries-long {b} q p = lengths T (sym q ∙ not-false b p) .entries

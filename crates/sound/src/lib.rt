@@ -2,6 +2,7 @@
 use access::limits::MAX_COUNTER;
 use access::limits::MAX_LEVEL;
 use access::limits::MAX_RULESETS;
+use sound_objects::index_objects;
 use tables::rows::counter_of;
 use tables::rows::layers_used;
 use tables::rows::lengths_right;
@@ -9,7 +10,11 @@ use tables::rows::level_of;
 use tables::rows::pool_used;
 use tables::rows::ruleset_open;
 ghost use mathlib.Core.Path.{_≡_};
-ghost use Rattle.tables.specs.Tables.{before, level, counter, layersUsed, poolUsed};
+ghost use Prim.Native.Nat.{_*_};
+ghost use lib.ListN.{length};
+ghost use Rattle.access.specs.Limits.{maxEntries};
+ghost use Rattle.sound_objects.specs.Objects.{Indexed};
+ghost use Rattle.tables.specs.Tables.{entryWidth, before, level, counter, layersUsed, poolUsed};
 ghost use Rattle.sound_tree.specs.Tree.{entriesTest};
 ghost use Rattle.sound_rulesets.specs.Rulesets.{rulesetsTest};
 ghost use Rattle.sound_layers.specs.Layers.{layersTest};
@@ -57,23 +62,48 @@ fn level_zero_sound(system: &[u64], rulesets: &[u64]) -> bool
     !any_open(rulesets)
 }
 
-fn entries_part(system: &[u64], entries: &[u64]) -> bool
+fn entries_part(system: &[u64], entries: &[u64], heads: &[u64], links: &[u64]) -> bool
+    requires { ⌜ (length (now entries) ≡ entryWidth * maxEntries) × Indexed (now entries) (now heads) (now links) ⌝ }
     ensures { λ r. ⌜ r ≡ entriesTest (now (entries .entry)) (counter (now (system .entry))) ⌝ }
 {
-    sound_tree::entries_sound(entries, counter_of(system))
+    sound_tree::entries_sound(entries, links, counter_of(system))
 }
 
-fn rulesets_part(system: &[u64], entries: &[u64], rulesets: &[u64]) -> bool
+fn rulesets_part(
+    system: &[u64],
+    entries: &[u64],
+    heads: &[u64],
+    links: &[u64],
+    rulesets: &[u64],
+) -> bool
+    requires { ⌜ (length (now entries) ≡ entryWidth * maxEntries) × Indexed (now entries) (now heads) (now links) ⌝ }
     ensures { λ r. ⌜ r ≡ rulesetsTest (now (entries .entry)) (counter (now (system .entry))) (level (now (system .entry))) (now (rulesets .entry)) ⌝ }
 {
-    sound_rulesets::rulesets_sound(entries, counter_of(system), level_of(system), rulesets)
+    sound_rulesets::rulesets_sound(
+        entries,
+        heads,
+        links,
+        counter_of(system),
+        level_of(system),
+        rulesets,
+    )
 }
 
-fn layers_part(system: &[u64], entries: &[u64], layers: &[u64], pool: &[u64]) -> bool
+fn layers_part(
+    system: &[u64],
+    entries: &[u64],
+    heads: &[u64],
+    links: &[u64],
+    layers: &[u64],
+    pool: &[u64],
+) -> bool
+    requires { ⌜ (length (now entries) ≡ entryWidth * maxEntries) × Indexed (now entries) (now heads) (now links) ⌝ }
     ensures { λ r. ⌜ r ≡ layersTest (now (entries .entry)) (counter (now (system .entry))) (level (now (system .entry))) (now (layers .entry)) (now (pool .entry)) (layersUsed (now (system .entry))) (poolUsed (now (system .entry))) ⌝ }
 {
     sound_layers::layers_sound(
         entries,
+        heads,
+        links,
         counter_of(system),
         level_of(system),
         layers,
@@ -93,11 +123,14 @@ fn threads_part(system: &[u64], layers: &[u64], threads: &[u64]) -> bool
 fn parts_sound(
     system: &[u64],
     entries: &[u64],
+    heads: &[u64],
+    links: &[u64],
     rulesets: &[u64],
     layers: &[u64],
     pool: &[u64],
     threads: &[u64],
 ) -> bool
+    requires { ⌜ (length (now entries) ≡ entryWidth * maxEntries) × Indexed (now entries) (now heads) (now links) ⌝ }
     ensures { λ r. ⌜ r ≡ partsTest (before system entries rulesets layers pool threads) ⌝ }
 {
     if !system_sound(system) {
@@ -109,13 +142,13 @@ fn parts_sound(
     if !threads_part(system, layers, threads) {
         return false;
     }
-    if !entries_part(system, entries) {
+    if !entries_part(system, entries, heads, links) {
         return false;
     }
-    if !rulesets_part(system, entries, rulesets) {
+    if !rulesets_part(system, entries, heads, links, rulesets) {
         return false;
     }
-    layers_part(system, entries, layers, pool)
+    layers_part(system, entries, heads, links, layers, pool)
 }
 
 // The tables are sound, for slices of any length and contents.
@@ -132,5 +165,17 @@ pub fn is_sound(
     if !lengths_right(system, entries, rulesets, layers, pool, threads) {
         return false;
     }
-    parts_sound(system, entries, rulesets, layers, pool, threads)
+    let mut heads = [0u64; 1024];
+    let mut links = [0u64; 1024];
+    index_objects(entries, &mut heads, &mut links);
+    parts_sound(
+        system,
+        entries,
+        &heads,
+        &links,
+        rulesets,
+        layers,
+        pool,
+        threads,
+    )
 }

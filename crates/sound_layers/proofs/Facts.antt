@@ -50,7 +50,7 @@ pub record Layers (es : List ℕ) (next level : ℕ) (ls ps : List ℕ) (used ta
   pub pool-rest : (n : ℕ) → ruleWidth * taken ≤ n → n < ruleWidth * maxPool → getD ps n 0 ≡ 0
 
 -- the runs of two layers are apart
-abbrev Apart : List ℕ → ℕ → ℕ → Type 0
+abbrev pub Apart : List ℕ → ℕ → ℕ → Type 0
 Apart ls l m = (layerFirst ls l + layerCount ls l ≤ layerFirst ls m) ⊎ (layerFirst ls m + layerCount ls m ≤ layerFirst ls l)
 
 module _ (first count taken : ℕ) where
@@ -72,7 +72,7 @@ module _ (first count taken : ℕ) where
       also met)
 
 module _ (ls : List ℕ) where
-  runs-apart : (l m : ℕ) → runsApart ls l m ≡ true → Apart ls l m
+  pub runs-apart : (l m : ℕ) → runsApart ls l m ≡ true → Apart ls l m
   unfolding runsApart
   runs-apart l m h =
       either
@@ -80,7 +80,7 @@ module _ (ls : List ℕ) where
       (λ q. inl (leb-true (layerFirst ls l + layerCount ls l) (layerFirst ls m) q))
       (λ q. inr (leb-true (layerFirst ls m + layerCount ls m) (layerFirst ls l) q))
 
-  apart-back : (l m : ℕ) → Apart ls l m → runsApart ls l m ≡ true
+  pub apart-back : (l m : ℕ) → Apart ls l m → runsApart ls l m ≡ true
   unfolding runsApart
   apart-back l m s =
       either s
@@ -99,7 +99,7 @@ module _ (ls : List ℕ) where
       (λ q. let g : l ≤ m = ltb-false m l q in either (before-apart used h m l b (omega arith)) inr inl)
 
 module _ (es : List ℕ) (next level : ℕ) (ls ps : List ℕ) where
-  used-layer : (taken l : ℕ) → layerSound es next level ls ps taken l ≡ true → UsedLayer es next level ls ps taken l
+  pub used-layer : (taken l : ℕ) → layerSound es next level ls ps taken l ≡ true → UsedLayer es next level ls ps taken l
   unfolding layerSound
   used-layer taken l h =
       let P : PlacedRun (layerFirst ls l) (layerCount ls l) taken = placed-run (layerFirst ls l) (layerCount ls l) taken (allOf-at _ 1 h) in

@@ -1,2 +1,3 @@
 -- The laws of layers and the pool.
 pub mod Facts
+pub mod Runs

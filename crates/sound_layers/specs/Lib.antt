@@ -1,2 +1,3 @@
 -- When layers and the pool are sound.
 pub mod Layers
+pub mod Runs

@@ -5,21 +5,22 @@ use access::limits::MAX_RULES;
 use access::rights::Rights;
 use sound_rules::masks_known;
 use sound_rules::rules_sound;
-use tables::cells::all_zero;
+use sound_zero::all_zero;
 use tables::rows::LAYER_WIDTH;
 use tables::rows::LAYERS_CELLS;
 use tables::rows::POOL_CELLS;
 use tables::rows::RULE_WIDTH;
 use tables::rows::handles_any;
 ghost use mathlib.Core.Path.{_≡_};
-ghost use mathlib.Core.Bool.{_||_};
+ghost use mathlib.Core.Bool.{true};
 ghost use Prim.Native.Nat.{_+_, _*_, _<_, _≤_};
-ghost use lib.Dec.{leb};
 ghost use lib.ListN.{length};
 ghost use Rattle.laws.specs.Tests.{allBelow};
-ghost use Rattle.access.specs.Limits.{maxLayers, maxPool};
-ghost use Rattle.tables.specs.Tables.{layerWidth, ruleWidth};
-ghost use Rattle.sound_layers.specs.Layers.{runPlaced, layerSound, runsApart, runSound, restZero, layersSound, layersTest};
+ghost use Rattle.access.specs.Limits.{maxEntries, maxLayers, maxPool};
+ghost use Rattle.tables.specs.Tables.{entryWidth, layerWidth, ruleWidth};
+ghost use Rattle.sound_objects.specs.Objects.{Indexed};
+ghost use Rattle.sound_layers.specs.Layers.{runPlaced, layerSound, runSound, restZero, layersSound, layersTest};
+ghost use Rattle.sound_layers.specs.Runs.{RunsPlaced, runClear, withRun};
 
 // The run of a layer, by its first rule and its number of rules.
 fn run_placed(first: u64, count: u64, taken: u64) -> bool
@@ -42,6 +43,8 @@ fn run_placed(first: u64, count: u64, taken: u64) -> bool
 
 fn layer_sound(
     entries: &[u64],
+    heads: &[u64],
+    links: &[u64],
     next: u64,
     level: u64,
     layers: &[u64],
@@ -49,7 +52,7 @@ fn layer_sound(
     taken: u64,
     l: usize,
 ) -> bool
-    requires { ⌜ (length (now layers) ≡ layerWidth * maxLayers) × ((length (now pool) ≡ ruleWidth * maxPool) × ((taken ≤ maxPool) × (l < maxLayers))) ⌝ }
+    requires { ⌜ (length (now layers) ≡ layerWidth * maxLayers) × ((length (now pool) ≡ ruleWidth * maxPool) × ((taken ≤ maxPool) × ((l < maxLayers) × ((length (now entries) ≡ entryWidth * maxEntries) × Indexed (now entries) (now heads) (now links))))) ⌝ }
     ensures { λ r. ⌜ r ≡ layerSound (now (entries .entry)) next level (now (layers .entry)) (now (pool .entry)) taken l ⌝ }
 {
     let at = LAYER_WIDTH * l;
@@ -72,11 +75,13 @@ fn layer_sound(
     }
     let from = RULE_WIDTH * (first as usize);
     let to = from + RULE_WIDTH * (count as usize);
-    rules_sound(entries, next, fs, net, &pool[from..to])
+    rules_sound(entries, heads, links, next, fs, net, &pool[from..to])
 }
 
 fn each_sound(
     entries: &[u64],
+    heads: &[u64],
+    links: &[u64],
     next: u64,
     level: u64,
     layers: &[u64],
@@ -84,13 +89,13 @@ fn each_sound(
     used: u64,
     taken: u64,
 ) -> bool
-    requires { ⌜ (length (now layers) ≡ layerWidth * maxLayers) × ((length (now pool) ≡ ruleWidth * maxPool) × ((taken ≤ maxPool) × (used ≤ maxLayers))) ⌝ }
+    requires { ⌜ (length (now layers) ≡ layerWidth * maxLayers) × ((length (now pool) ≡ ruleWidth * maxPool) × ((taken ≤ maxPool) × ((used ≤ maxLayers) × ((length (now entries) ≡ entryWidth * maxEntries) × Indexed (now entries) (now heads) (now links))))) ⌝ }
     ensures { λ r. ⌜ r ≡ allBelow (layerSound (now (entries .entry)) next level (now (layers .entry)) (now (pool .entry)) taken) used ⌝ }
 {
     let n = used as usize;
     let mut l = 0;
     while l < n {
-        if layer_sound(entries, next, level, layers, pool, taken, l) {
+        if layer_sound(entries, heads, links, next, level, layers, pool, taken, l) {
             l += 1;
         } else {
             return false;
@@ -99,53 +104,35 @@ fn each_sound(
     true
 }
 
-// Whether two runs are apart, by their first rules and their numbers of rules, each run within the pool.
-fn apart(first: u64, count: u64, other: u64, many: u64) -> bool
-    ensures { λ r. ⌜ r ≡ (leb (first + count) other || leb (other + many) first) ⌝ }
+// Sets the flags of a run's places, if each is clear.
+fn take_run(taken: &mut [u8], first: usize, count: usize) -> bool
+    requires { ⌜ first + count ≤ length (now taken) ⌝ }
+    ensures { λ r. ⌜ (r ≡ runClear (now (taken .entry)) first count) × (r ≡ true → now (taken .exit) ≡ withRun (now (taken .entry)) first count) ⌝ }
 {
-    if first <= other {
-        if count <= other - first {
-            return true;
-        }
-    }
-    if other <= first {
-        return many <= first - other;
-    }
-    false
-}
-
-fn runs_apart(layers: &[u64], l: usize, m: usize) -> bool
-    requires { ⌜ (length (now layers) ≡ layerWidth * maxLayers) × ((l < maxLayers) × (m < maxLayers)) ⌝ }
-    ensures { λ r. ⌜ r ≡ runsApart (now (layers .entry)) l m ⌝ }
-{
-    let a = LAYER_WIDTH * l;
-    let b = LAYER_WIDTH * m;
-    apart(layers[a + 4], layers[a + 5], layers[b + 4], layers[b + 5])
-}
-
-fn run_sound(layers: &[u64], l: usize) -> bool
-    requires { ⌜ (length (now layers) ≡ layerWidth * maxLayers) × (l < maxLayers) ⌝ }
-    ensures { λ r. ⌜ r ≡ runSound (now (layers .entry)) l ⌝ }
-{
-    let mut m = 0;
-    while m < l {
-        if runs_apart(layers, l, m) {
-            m += 1;
-        } else {
+    let mut k = 0;
+    while k < count {
+        if taken[first + k] != 0 {
             return false;
         }
+        taken[first + k] = 1;
+        k += 1;
     }
     true
 }
 
+// The runs of the layers in use are apart: no place of the pool is taken twice.
 fn runs_sound(layers: &[u64], used: u64) -> bool
-    requires { ⌜ (length (now layers) ≡ layerWidth * maxLayers) × (used ≤ maxLayers) ⌝ }
+    requires { ⌜ (length (now layers) ≡ layerWidth * maxLayers) × ((used ≤ maxLayers) × RunsPlaced (now layers) used) ⌝ }
     ensures { λ r. ⌜ r ≡ allBelow (runSound (now (layers .entry))) used ⌝ }
 {
     let n = used as usize;
+    let mut taken = [0u8; 1024];
     let mut l = 0;
     while l < n {
-        if run_sound(layers, l) {
+        let at = LAYER_WIDTH * l;
+        let first = layers[at + 4] as usize;
+        let count = layers[at + 5] as usize;
+        if take_run(&mut taken, first, count) {
             l += 1;
         } else {
             return false;
@@ -169,6 +156,8 @@ fn rest_zero(layers: &[u64], pool: &[u64], used: u64, taken: u64) -> bool
 
 fn all_sound(
     entries: &[u64],
+    heads: &[u64],
+    links: &[u64],
     next: u64,
     level: u64,
     layers: &[u64],
@@ -176,7 +165,7 @@ fn all_sound(
     used: u64,
     taken: u64,
 ) -> bool
-    requires { ⌜ (length (now layers) ≡ layerWidth * maxLayers) × (length (now pool) ≡ ruleWidth * maxPool) ⌝ }
+    requires { ⌜ (length (now layers) ≡ layerWidth * maxLayers) × ((length (now pool) ≡ ruleWidth * maxPool) × ((length (now entries) ≡ entryWidth * maxEntries) × Indexed (now entries) (now heads) (now links))) ⌝ }
     ensures { λ r. ⌜ r ≡ layersSound (now (entries .entry)) next level (now (layers .entry)) (now (pool .entry)) used taken ⌝ }
 {
     if used > MAX_LAYERS as u64 {
@@ -185,7 +174,17 @@ fn all_sound(
     if taken > MAX_POOL as u64 {
         return false;
     }
-    if !each_sound(entries, next, level, layers, pool, used, taken) {
+    if !each_sound(
+        entries,
+        heads,
+        links,
+        next,
+        level,
+        layers,
+        pool,
+        used,
+        taken,
+    ) {
         return false;
     }
     if !runs_sound(layers, used) {
@@ -194,9 +193,12 @@ fn all_sound(
     rest_zero(layers, pool, used, taken)
 }
 
-// Layers and pool have their lengths and are sound; `next` is the counter of object numbers.
+// Layers and pool have their lengths and are sound; `next` is the counter of object numbers, `heads` and `links` are the
+// index of objects.
 pub fn layers_sound(
     entries: &[u64],
+    heads: &[u64],
+    links: &[u64],
     next: u64,
     level: u64,
     layers: &[u64],
@@ -204,6 +206,7 @@ pub fn layers_sound(
     used: u64,
     taken: u64,
 ) -> bool
+    requires { ⌜ (length (now entries) ≡ entryWidth * maxEntries) × Indexed (now entries) (now heads) (now links) ⌝ }
     ensures { λ r. ⌜ r ≡ layersTest (now (entries .entry)) next level (now (layers .entry)) (now (pool .entry)) used taken ⌝ }
 {
     if layers.len() != LAYERS_CELLS {
@@ -212,5 +215,15 @@ pub fn layers_sound(
     if pool.len() != POOL_CELLS {
         return false;
     }
-    all_sound(entries, next, level, layers, pool, used, taken)
+    all_sound(
+        entries,
+        heads,
+        links,
+        next,
+        level,
+        layers,
+        pool,
+        used,
+        taken,
+    )
 }

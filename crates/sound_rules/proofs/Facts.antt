@@ -55,11 +55,11 @@ module _ (es : List ℕ) (o e : ℕ) where
   unfolding isFileOf
   file-of l d q = both _ _ (eq-eqb (object es e) o q) (both _ _ l (not-of-false _ d))
 
-  file-object : isFileOf es o e ≡ true → object es e ≡ o
+  pub file-object : isFileOf es o e ≡ true → object es e ≡ o
   unfolding isFileOf
   file-object f = eqb-true (object es e) o (and-l _ _ f)
 
-  file-live : isFileOf es o e ≡ true → live es e ≡ true
+  pub file-live : isFileOf es o e ≡ true → live es e ≡ true
   unfolding isFileOf
   file-live f = and-l _ _ (and-r (eqb (object es e) o) _ f)
 
@@ -160,7 +160,7 @@ module _ (rules : List ℕ) where
       (both _ _ (eq-eqb (ruleKey rules i) (ruleKey rules j) k) (eq-eqb (ruleType rules i) (ruleType rules j) t))
       (not-true _ (all-at (λ m. not (sameKey rules i m)) i j h l))
 
-  new-key : (i : ℕ) → ((j : ℕ) → j < i → ruleType rules i ≡ ruleType rules j → ruleKey rules i ≡ ruleKey rules j → ⊥) → newKey rules i ≡ true
+  pub new-key : (i : ℕ) → ((j : ℕ) → j < i → ruleType rules i ≡ ruleType rules j → ruleKey rules i ≡ ruleKey rules j → ⊥) → newKey rules i ≡ true
   unfolding newKey sameKey
   new-key i f = all-of (λ m. not (sameKey rules i m)) i (λ j l. not-of-false _ (other j l))
     where

@@ -1,2 +1,3 @@
 -- What sound rules are.
 pub mod Facts
+pub mod Flags

@@ -1,2 +1,3 @@
 -- When rules are sound.
 pub mod Rules
+pub mod Flags

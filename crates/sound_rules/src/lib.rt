@@ -1,52 +1,72 @@
 // The soundness test of rules, the same for rulesets and layers.
-use access::limits::MAX_ENTRIES;
 use access::limits::MAX_PORT;
 use access::rights::Rights;
+use sound_objects::bucket_of;
+use tables::rows::DIRECTORY;
 use tables::rows::PATH_RULE;
 use tables::rows::PORT_RULE;
 use tables::rows::RULE_WIDTH;
 ghost use mathlib.Core.Path.{_≡_};
-ghost use Prim.Native.Nat.{_<_};
+ghost use Prim.Native.Nat.{_*_, _<_};
+ghost use lib.ListN.{length};
 ghost use Rattle.laws.specs.Tests.{allBelow};
+ghost use Rattle.access.specs.Limits.{maxEntries};
+ghost use Rattle.tables.specs.Tables.{entryWidth};
+ghost use Rattle.sound_objects.specs.Objects.{Indexed};
+ghost use Rattle.sound_rules.specs.Flags.{flagOf};
 ghost use Rattle.sound_rules.specs.Rules.{isFileOf, fileObject, rightsFit, pathSound, portSound, cellsSound, ruleSound, sameKey, newKey, ruleCount, rulesSound, masksKnown};
 
 // Entry `e` is live, no directory, and of the object.
 fn is_file_of(entries: &[u64], object: u64, e: usize) -> bool
+    requires { ⌜ (length (now entries) ≡ entryWidth * maxEntries) × (e < maxEntries) ⌝ }
     ensures { λ r. ⌜ r ≡ isFileOf (now (entries .entry)) object e ⌝ }
 {
-    if tables::rows::object_of(entries, e as u64) != object {
+    if entries[3 * e + 2] != object {
         return false;
     }
-    if !tables::rows::entry_live(entries, e as u64) {
+    let kind = entries[3 * e];
+    if kind == 0 {
         return false;
     }
-    !tables::rows::is_dir(entries, e as u64)
+    kind != DIRECTORY
 }
 
-// Some live entry that is no directory has the object.
-fn file_object(entries: &[u64], object: u64) -> bool
+// Some live entry that is no directory has the object: searched in its bucket of the index.
+fn file_object(entries: &[u64], heads: &[u64], links: &[u64], object: u64) -> bool
+    requires { ⌜ (length (now entries) ≡ entryWidth * maxEntries) × Indexed (now entries) (now heads) (now links) ⌝ }
     ensures { λ r. ⌜ r ≡ fileObject (now (entries .entry)) object ⌝ }
 {
-    let mut e = 0;
-    while e < MAX_ENTRIES {
+    let mut at = heads[bucket_of(object)];
+    while at != 0 {
+        let e = (at - 1) as usize;
         if is_file_of(entries, object, e) {
             return true;
         }
-        e += 1;
+        at = links[e];
     }
     false
 }
 
-fn rights_fit(entries: &[u64], object: u64, rights: Rights) -> bool
+fn rights_fit(entries: &[u64], heads: &[u64], links: &[u64], object: u64, rights: Rights) -> bool
+    requires { ⌜ (length (now entries) ≡ entryWidth * maxEntries) × Indexed (now entries) (now heads) (now links) ⌝ }
     ensures { λ r. ⌜ r ≡ rightsFit (now (entries .entry)) object (rights .0) ⌝ }
 {
     if Rights::FILE.contains(rights) {
         return true;
     }
-    !file_object(entries, object)
+    !file_object(entries, heads, links, object)
 }
 
-fn path_sound(entries: &[u64], next: u64, fs: Rights, object: u64, rights: Rights) -> bool
+fn path_sound(
+    entries: &[u64],
+    heads: &[u64],
+    links: &[u64],
+    next: u64,
+    fs: Rights,
+    object: u64,
+    rights: Rights,
+) -> bool
+    requires { ⌜ (length (now entries) ≡ entryWidth * maxEntries) × Indexed (now entries) (now heads) (now links) ⌝ }
     ensures { λ r. ⌜ r ≡ pathSound (now (entries .entry)) next (fs .0) object (rights .0) ⌝ }
 {
     if object >= next {
@@ -58,7 +78,7 @@ fn path_sound(entries: &[u64], next: u64, fs: Rights, object: u64, rights: Right
     if !fs.contains(rights) {
         return false;
     }
-    rights_fit(entries, object, rights)
+    rights_fit(entries, heads, links, object, rights)
 }
 
 fn port_sound(net: Rights, port: u64, rights: Rights) -> bool
@@ -75,6 +95,8 @@ fn port_sound(net: Rights, port: u64, rights: Rights) -> bool
 
 fn cells_sound(
     entries: &[u64],
+    heads: &[u64],
+    links: &[u64],
     next: u64,
     fs: Rights,
     net: Rights,
@@ -82,10 +104,11 @@ fn cells_sound(
     key: u64,
     rights: Rights,
 ) -> bool
+    requires { ⌜ (length (now entries) ≡ entryWidth * maxEntries) × Indexed (now entries) (now heads) (now links) ⌝ }
     ensures { λ r. ⌜ r ≡ cellsSound (now (entries .entry)) next (fs .0) (net .0) ty key (rights .0) ⌝ }
 {
     if ty == PATH_RULE {
-        return path_sound(entries, next, fs, key, rights);
+        return path_sound(entries, heads, links, next, fs, key, rights);
     }
     if ty == PORT_RULE {
         return port_sound(net, key, rights);
@@ -93,12 +116,23 @@ fn cells_sound(
     false
 }
 
-fn rule_sound(entries: &[u64], next: u64, fs: Rights, net: Rights, rules: &[u64], i: usize) -> bool
-    requires { ⌜ i < ruleCount (now rules) ⌝ }
+fn rule_sound(
+    entries: &[u64],
+    heads: &[u64],
+    links: &[u64],
+    next: u64,
+    fs: Rights,
+    net: Rights,
+    rules: &[u64],
+    i: usize,
+) -> bool
+    requires { ⌜ (i < ruleCount (now rules)) × ((length (now entries) ≡ entryWidth * maxEntries) × Indexed (now entries) (now heads) (now links)) ⌝ }
     ensures { λ r. ⌜ r ≡ ruleSound (now (entries .entry)) next (fs .0) (net .0) (now (rules .entry)) i ⌝ }
 {
     cells_sound(
         entries,
+        heads,
+        links,
         next,
         fs,
         net,
@@ -108,13 +142,22 @@ fn rule_sound(entries: &[u64], next: u64, fs: Rights, net: Rights, rules: &[u64]
     )
 }
 
-fn each_sound(entries: &[u64], next: u64, fs: Rights, net: Rights, rules: &[u64]) -> bool
+fn each_sound(
+    entries: &[u64],
+    heads: &[u64],
+    links: &[u64],
+    next: u64,
+    fs: Rights,
+    net: Rights,
+    rules: &[u64],
+) -> bool
+    requires { ⌜ (length (now entries) ≡ entryWidth * maxEntries) × Indexed (now entries) (now heads) (now links) ⌝ }
     ensures { λ r. ⌜ r ≡ allBelow (ruleSound (now (entries .entry)) next (fs .0) (net .0) (now (rules .entry))) (ruleCount (now (rules .entry))) ⌝ }
 {
     let n = rules.len() / RULE_WIDTH;
     let mut i = 0;
     while i < n {
-        if rule_sound(entries, next, fs, net, rules, i) {
+        if rule_sound(entries, heads, links, next, fs, net, rules, i) {
             i += 1;
         } else {
             return false;
@@ -147,26 +190,46 @@ fn new_key(rules: &[u64], i: usize) -> bool
     true
 }
 
+fn flag_of(key: u64) -> usize
+    ensures { λ r. ⌜ r ≡ flagOf key ⌝ }
+{
+    (key % 256) as usize
+}
+
+// A clear flag tells that the key is new; where it is set, the rules before decide.
 fn keys_new(rules: &[u64]) -> bool
     ensures { λ r. ⌜ r ≡ allBelow (newKey (now (rules .entry))) (ruleCount (now (rules .entry))) ⌝ }
 {
     let n = rules.len() / RULE_WIDTH;
+    let mut seen = [0u8; 256];
     let mut i = 0;
     while i < n {
-        if new_key(rules, i) {
-            i += 1;
-        } else {
-            return false;
+        let b = flag_of(rules[3 * i + 1]);
+        if seen[b] != 0 {
+            if !new_key(rules, i) {
+                return false;
+            }
         }
+        seen[b] = 1;
+        i += 1;
     }
     true
 }
 
 // Every rule of the cells is sound, and no two are for the same object or port.
-pub fn rules_sound(entries: &[u64], next: u64, fs: Rights, net: Rights, rules: &[u64]) -> bool
+pub fn rules_sound(
+    entries: &[u64],
+    heads: &[u64],
+    links: &[u64],
+    next: u64,
+    fs: Rights,
+    net: Rights,
+    rules: &[u64],
+) -> bool
+    requires { ⌜ (length (now entries) ≡ entryWidth * maxEntries) × Indexed (now entries) (now heads) (now links) ⌝ }
     ensures { λ r. ⌜ r ≡ rulesSound (now (entries .entry)) next (fs .0) (net .0) (now (rules .entry)) ⌝ }
 {
-    if !each_sound(entries, next, fs, net, rules) {
+    if !each_sound(entries, heads, links, next, fs, net, rules) {
         return false;
     }
     keys_new(rules)

@@ -2,4 +2,5 @@
 pub mod Rows
 pub mod Climb
 pub mod Reach
+pub mod Marks
 pub mod Facts

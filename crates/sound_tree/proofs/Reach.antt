@@ -1,16 +1,18 @@
--- The bound cuts no climb short: a climb through a table's entries that comes to entry 0 does so in fewer steps than there are entries. Assumes nothing.
+-- The bound cuts no climb short: a climb that comes to entry 0 does so in no more steps than there are entries. Assumes nothing.
 use mathlib.Core.Path.{_≡_, refl, sym, ap, _∙_}
 use mathlib.Core.Bool.{true, cond}
 use mathlib.Core.List.{List}
 use mathlib.Core.Logic.{_⊎_, inl, inr}
-use Prim.Native.Nat.{ℕ, zero, suc, _+_, _-_, _≤_, _<_}
+use Prim.Native.Nat.{ℕ, zero, suc, _+_, _-_, _*_, _≤_, _<_, min}
 use native.Mathlib.Nat.{not-suc-le-zero, zero-add, suc-add, le-refl}
 use native.Mathlib.Omega.{arith}
-use lib.Dec.{eqb, ltb}
-use borrow.Author.Tests.{eqb-true, eq-eqb, eqb-false, ltb-true, ltb-false}
+use lib.Dec.{eqb, ltb, leb}
+use lib.ListN.{length}
+use borrow.Author.Tests.{eqb-true, eq-eqb, eqb-false, ltb-true, ltb-false, leb-true, leb-false}
 use Rattle.laws.proofs.Bools.{split, either, cond-else, cond-of}
+use Rattle.laws.proofs.Cells.{past}
 use Rattle.access.specs.Limits.{maxEntries}
-use Rattle.tables.specs.Tables.{parent}
+use Rattle.tables.specs.Tables.{entryWidth, parent}
 use Rattle.sound_tree.specs.Tree.{reaches}
 
 -- ---- of n + 1 numbers below n two are equal
@@ -91,21 +93,57 @@ module _ (es : List ℕ) where
   of-reach (suc n) zero e l h = simp (eq-eqb e 0 h)
   of-reach (suc n) (suc k) e l h = cond-of (eqb e 0) true (reaches es n (parent es e)) (λ q. refl) (λ q. of-reach n k (parent es e) (omega arith) h)
 
-  -- a climb through numbers below n that ends, ends in fewer than n steps
-  shorten : (n e : ℕ) → ((i : ℕ) → up es i e < n) → (b k : ℕ) → k ≤ b → up es k e ≡ 0 → (j : ℕ) × (j < n) × (up es j e ≡ 0)
-  shorten n e small zero k l h = (k, (let a = small k in omega arith), h)
-  shorten n e small (suc b) k l h = split (ltb k n)
-      (λ q. (k, ltb-true k n q, h))
+  up-suc : (i e : ℕ) → up es (suc i) e ≡ parent es (up es i e)
+  unfolding up
+  up-suc zero e = refl
+  up-suc (suc i) e = up-suc i (parent es e)
+
+  -- a climb that ends, ends in at most n steps, if from n on each number is right below entry 0
+  shorten : (n e : ℕ) → 0 < n → ((i : ℕ) → n ≤ up es i e → up es (suc i) e ≡ 0) → (b k : ℕ) → k ≤ b → up es k e ≡ 0 → (j : ℕ) × (j ≤ n) × (up es j e ≡ 0)
+  shorten n e z far zero k l h = (k, omega arith, h)
+  shorten n e z far (suc b) k l h = split (leb k n)
+      (λ q. (k, leb-true k n q, h))
       (λ q.
-      let far : n ≤ k = ltb-false k n q in
-      let t = pigeons n (λ i. up es i e) (λ i w. small i) in
+      let long : n < k = leb-false k n q in
+      let t = pigeons (suc n) (λ i. min (up es i e) n) (λ i w. omega arith) in
       let a = t .lt in
       let c = t .le in
+      let m = t .eq in
+      split (ltb (up es (t .j) e) n)
+      -- the climb came to a number twice
+      (λ p.
+      let s = ltb-true (up es (t .j) e) n p in
+      let same : up es (t .i) e ≡ up es (t .j) e = omega arith in
       let less : up es (t .i + (k - t .j)) e ≡ 0 =
-      up-add (t .i) (k - t .j) e ∙ ap (up es (k - t .j)) (t .eq) ∙ sym (up-add (t .j) (k - t .j) e) ∙ ap (λ (m : ℕ). up es m e) (omega arith) ∙ h in
-      shorten n e small b (t .i + (k - t .j)) (omega arith) less)
+      up-add (t .i) (k - t .j) e ∙ ap (up es (k - t .j)) same ∙ sym (up-add (t .j) (k - t .j) e) ∙ ap (λ (m : ℕ). up es m e) (omega arith) ∙ h in
+      shorten n e z far b (t .i + (k - t .j)) (omega arith) less)
+      -- it came past n, and so is not the whole climb
+      (λ p.
+      let s : n ≤ up es (t .j) e = ltb-false (up es (t .j) e) n p in
+      let d : (t .j ≡ k → ⊥) = λ w. (let v : up es (t .j) e ≡ up es k e = ap (λ (m : ℕ). up es m e) w in omega arith) in
+      shorten n e z far b (suc (t .i)) (omega arith) (far (t .i) (omega arith))))
 
   pub climb-bound : (e k : ℕ) → ((i : ℕ) → up es i e < maxEntries) → up es k e ≡ 0 → reaches es maxEntries e ≡ true
   climb-bound e k small h =
-      let s = shorten maxEntries e small k k (le-refl k) h in
-      of-reach maxEntries (s .0) e (let l = s .1 in omega arith) (s .2)
+      let s = shorten maxEntries e (omega arith) (λ i w. absurd (let a = small i in omega arith)) k k (le-refl k) h in
+      of-reach maxEntries (s .0) e (s .1) (s .2)
+
+  -- a number that is no entry's reads as right below entry 0
+  pub climb-any : length es ≡ entryWidth * maxEntries → (e k : ℕ) → up es k e ≡ 0 → reaches es maxEntries e ≡ true
+  climb-any w e k h =
+      let far : (i : ℕ) → maxEntries ≤ up es i e → up es (suc i) e ≡ 0 = λ i a. up-suc i e ∙ sym (past es (3 * up es i e + 1) (omega arith)) in
+      let s = shorten maxEntries e (omega arith) far k k (le-refl k) h in
+      of-reach maxEntries (s .0) e (s .1) (s .2)
+
+  -- a step up, and back
+  step-on : (n k e : ℕ) → (e ≡ 0 → ⊥) → k ≤ n → up es k e ≡ 0 → reaches es n (parent es e) ≡ true
+  unfolding up
+  step-on n zero e d l h = absurd (d h)
+  step-on n (suc k) e d l h = of-reach n k (parent es e) (omega arith) h
+
+  pub reaches-on : (e : ℕ) → (e ≡ 0 → ⊥) → reaches es maxEntries e ≡ true → reaches es maxEntries (parent es e) ≡ true
+  reaches-on e d h = let s = reach-of maxEntries e h in step-on maxEntries (s .0) e d (s .1) (s .2)
+
+  pub reaches-back : length es ≡ entryWidth * maxEntries → (e : ℕ) → reaches es maxEntries (parent es e) ≡ true → reaches es maxEntries e ≡ true
+  unfolding up
+  reaches-back w e h = let s = reach-of maxEntries (parent es e) h in climb-any w e (suc (s .0)) (s .2)

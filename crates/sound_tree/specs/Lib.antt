@@ -1,2 +1,3 @@
 -- When the entries are sound.
 pub mod Tree
+pub mod Fast

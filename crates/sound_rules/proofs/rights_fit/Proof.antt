@@ -13,5 +13,5 @@ rights-fit-spec =
     (tie.spec
     (λ c κs. search needs)
     (λ c. rw (sym (c .before .contains .ensures) ∙ c .if1 .taken))
-    (λ c κs. search needs)
+    (λ c κs. c .before .before .before .before .before .pre)
     (λ c. let d = c .before in rw (sym (d .before .contains .ensures) ∙ d .if1 .left) (ap not (c .file-object .ensures))))

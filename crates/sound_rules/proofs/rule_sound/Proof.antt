@@ -24,4 +24,4 @@ rule-sound-spec =
     (λ c. search needs)
     (λ c. search needs)
     (λ c κs. search needs)
-    (λ c. rw (add-zero (ruleWidth * c .before .before .before .before .before .before .args .i)) (c .cells-sound .ensures)))
+    (λ c. rw (add-zero (ruleWidth * c .before .before .before .before .before .before .before .before .args .i)) (c .cells-sound .ensures)))

@@ -11,10 +11,10 @@ use Rattle.sound_rulesets.proofs.each_sound.Statement.{statement}
 use Rattle.sound_rulesets.proofs.each_sound.Tie as tie
 
 abbrev Inv-loop : tie.InvT-loop
-Inv-loop entries next level rulesets r₀ r = (r ≤ maxRulesets) × (allBelow (rulesetSound entries next level rulesets) r ≡ true)
+Inv-loop entries heads links next level rulesets r₀ r = (r ≤ maxRulesets) × (allBelow (rulesetSound entries next level rulesets) r ≡ true)
 
 abbrev μ-loop : tie.MeasureT-loop
-μ-loop entries next level rulesets r₀ r = maxRulesets - r
+μ-loop entries heads links next level rulesets r₀ r = maxRulesets - r
 
 pub each-sound-spec : {M : Type 1} → statement M
 unfolding rulesetsSound
@@ -22,7 +22,7 @@ each-sound-spec =
     tie.close
     (tie.spec Inv-loop μ-loop
     (λ c. (omega arith, all-none _))
-    (λ c κs. (c .before .before .before .before .pre, omega arith))
+    (λ c κs. let p = c .before .before .before .before .before .before .pre in (p .0, (omega arith, p .1)))
     (λ c. omega arith)
     (λ c. omega arith)
     (λ c. (omega arith, all-more _ _ (c .before .before .before .loop .inv .1) (sym (c .before .ruleset-sound .ensures) ∙ c .if1 .taken)))

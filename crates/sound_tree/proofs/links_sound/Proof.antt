@@ -1,30 +1,42 @@
--- The invariant: `e` agrees with every entry below `f`. Assumes nothing.
-use Prim.Native.Nat.{_≤_, _-_}
-use mathlib.Core.Path.{_≡_, sym, _∙_}
-use mathlib.Core.Bool.{true}
+-- The invariant: the walk along the bucket is at `at`. Assumes nothing.
+use mathlib.Core.Path.{sym, ap, _∙_}
+use mathlib.Core.Bool.{not}
 use native.Mathlib.Omega.{arith}
 use borrow.Author.Needs.{needs}
-use Rattle.laws.specs.Tests.{allBelow}
-use Rattle.laws.proofs.Tests.{all-none, all-more, all-done, all-fails}
-use Rattle.sound_tree.specs.Tree.{linkSound, linksSound}
+use Rattle.laws.specs.Tests.{anyBelow}
+use Rattle.tables.specs.Tables.{object}
+use Rattle.sound_objects.specs.Objects.{bucketOf}
+use Rattle.sound_objects.proofs.Chains.{Walk, walk-start, walk-in, walk-less, walk-hit, walk-miss, walk-end}
+use Rattle.sound_tree.proofs.Rows.{unlike, unlike-only, links-no, links-yes}
 use Rattle.sound_tree.proofs.links_sound.Statement.{statement}
 use Rattle.sound_tree.proofs.links_sound.Tie as tie
 
 abbrev Inv-loop : tie.InvT-loop
-Inv-loop entries e f₀ f = (f ≤ e) × (allBelow (linkSound entries e) f ≡ true)
+Inv-loop entries links e at₀ at = Walk entries (bucketOf (object entries e)) (unlike entries e) (anyBelow (unlike entries e) e) at
 
 abbrev μ-loop : tie.MeasureT-loop
-μ-loop entries e f₀ f = e - f
+μ-loop entries links e at₀ at = at
 
 pub links-sound-spec : {M : Type 1} → statement M
-unfolding linksSound
 links-sound-spec =
     tie.close
     (tie.spec Inv-loop μ-loop
-    (λ c. (omega arith, all-none _))
-    (λ c κs. search needs)
-    (λ c. omega arith)
-    (λ c. omega arith)
-    (λ c. (omega arith, all-more _ _ (c .before .before .before .loop .inv .1) (sym (c .before .link-sound .ensures) ∙ c .if1 .taken)))
-    (λ c. all-fails _ _ (c .before .before .before .loop .f) (omega arith) (sym (c .before .link-sound .ensures) ∙ c .if1 .left))
-    (λ c. all-done _ _ (c .before .loop .f) (omega arith) (omega arith) (c .before .loop .inv .1)))
+    (λ c. search needs)
+    (λ c. search needs)
+    (λ c. let s = c .before .before .before in walk-start _ _ _ (s .args .e) _ (omega arith) (s .pre .1 .1 .0 (s .args .e) (omega arith)))
+    (λ c. search needs)
+    (λ c κs. let k = walk-in (c .before .loop .inv) (c .loop-test .taken) in search needs)
+    (λ c.
+    let d = c .before .before in
+    links-no _ _ (walk-hit (d .before .loop .inv) (unlike-only _ _) (d .loop-test .taken) (ap not (sym (c .before .link-sound .ensures)) ∙ c .if1 .taken)))
+    (λ c. let d = c .before .before in let k = walk-in (d .before .loop .inv) (d .loop-test .taken) in search needs)
+    (λ c. let d = c .before .before .before in let k = walk-in (d .before .loop .inv) (d .loop-test .taken) in omega arith)
+    (λ c.
+    let d = c .before .before .before in
+    let s = d .before .before .before .before .before in
+    walk-less (d .before .loop .inv) (s .args .links .now) (s .pre .1 .1 .0) (d .loop-test .taken))
+    (λ c.
+    let d = c .before .before .before in
+    let s = d .before .before .before .before .before in
+    walk-miss (d .before .loop .inv) (unlike-only _ _) (s .args .links .now) (s .pre .1 .1 .0) (d .loop-test .taken) (ap not (sym (c .before .before .link-sound .ensures)) ∙ c .before .if1 .left))
+    (λ c. links-yes _ _ (walk-end (c .before .loop .inv) (unlike-only _ _) (c .loop-test .left))))

@@ -12,10 +12,10 @@ use Rattle.sound_tree.proofs.objects_sound.Statement.{statement}
 use Rattle.sound_tree.proofs.objects_sound.Tie as tie
 
 abbrev Inv-loop : tie.InvT-loop
-Inv-loop entries e₀ e = (e ≤ maxEntries) × (allBelow (linksSound entries) e ≡ true)
+Inv-loop entries links e₀ e = (e ≤ maxEntries) × (allBelow (linksSound entries) e ≡ true)
 
 abbrev μ-loop : tie.MeasureT-loop
-μ-loop entries e₀ e = maxEntries - e
+μ-loop entries links e₀ e = maxEntries - e
 
 pub objects-sound-spec : {M : Type 1} → statement M
 objects-sound-spec =

@@ -1,4 +1,4 @@
--- The invariant: every entry below `e` is sound. Assumes nothing.
+-- The invariant: every row below `e` is sound. Assumes nothing.
 use Prim.Native.Nat.{_≤_, _-_}
 use mathlib.Core.Path.{_≡_, sym, _∙_}
 use mathlib.Core.Bool.{true}
@@ -7,24 +7,24 @@ use borrow.Author.Needs.{needs}
 use Rattle.laws.specs.Tests.{allBelow}
 use Rattle.laws.proofs.Tests.{all-none, all-more, all-done, all-fails}
 use Rattle.access.specs.Limits.{maxEntries}
-use Rattle.sound_tree.specs.Tree.{entrySound}
-use Rattle.sound_tree.proofs.each_sound.Statement.{statement}
-use Rattle.sound_tree.proofs.each_sound.Tie as tie
+use Rattle.sound_tree.specs.Fast.{rowSound}
+use Rattle.sound_tree.proofs.rows_sound.Statement.{statement}
+use Rattle.sound_tree.proofs.rows_sound.Tie as tie
 
 abbrev Inv-loop : tie.InvT-loop
-Inv-loop entries next e₀ e = (e ≤ maxEntries) × (allBelow (entrySound entries next) e ≡ true)
+Inv-loop entries next e₀ e = (e ≤ maxEntries) × (allBelow (rowSound entries next) e ≡ true)
 
 abbrev μ-loop : tie.MeasureT-loop
 μ-loop entries next e₀ e = maxEntries - e
 
-pub each-sound-spec : {M : Type 1} → statement M
-each-sound-spec =
+pub rows-sound-spec : {M : Type 1} → statement M
+rows-sound-spec =
     tie.close
     (tie.spec Inv-loop μ-loop
     (λ c. (omega arith, all-none _))
     (λ c κs. search needs)
     (λ c. omega arith)
     (λ c. omega arith)
-    (λ c. (omega arith, all-more _ _ (c .before .before .before .loop .inv .1) (sym (c .before .entry-sound .ensures) ∙ c .if1 .taken)))
-    (λ c. all-fails _ _ (c .before .before .before .loop .e) (omega arith) (sym (c .before .entry-sound .ensures) ∙ c .if1 .left))
+    (λ c. (omega arith, all-more _ _ (c .before .before .before .loop .inv .1) (sym (c .before .row-sound .ensures) ∙ c .if1 .taken)))
+    (λ c. all-fails _ _ (c .before .before .before .loop .e) (omega arith) (sym (c .before .row-sound .ensures) ∙ c .if1 .left))
     (λ c. all-done _ _ (c .before .loop .e) (omega arith) (omega arith) (c .before .loop .inv .1)))

@@ -1,0 +1,2 @@
+-- An index of the live entries by their objects.
+pub mod Objects

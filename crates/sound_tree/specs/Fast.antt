@@ -1,0 +1,20 @@
+-- What the functions test in turn: an entry's row without its climb, then the climbs, with marks of the entries that are known to end.
+use mathlib.Core.Path.{_≡_}
+use mathlib.Core.Bool.{Bool, true, cond}
+use mathlib.Core.List.{List, [], _∷_}
+use Prim.Native.Nat.{ℕ, _<_}
+use lib.ListN.{length, getD}
+use Rattle.laws.specs.Tests.{allOf}
+use Rattle.access.specs.Limits.{maxEntries}
+use Rattle.tables.specs.Tables.{live}
+use Rattle.sound_tree.specs.Tree.{reaches, kindInRange, parentIsDir, objectBelow, climbEnds, freeSound}
+
+unfoldable pub rowSound : List ℕ → ℕ → ℕ → Bool
+rowSound es next e = cond (live es e) (allOf (kindInRange es e ∷ parentIsDir es e ∷ objectBelow es next e ∷ [])) (freeSound es e)
+
+unfoldable pub liveClimbEnds : List ℕ → ℕ → Bool
+liveClimbEnds es e = cond (live es e) (climbEnds es e) true
+
+-- a marked entry comes to entry 0
+abbrev pub Known : List ℕ → List ℕ → Type 0
+Known es known = (length known ≡ maxEntries) × ((e : ℕ) → e < maxEntries → (getD known e 0 ≡ 0 → ⊥) → reaches es maxEntries e ≡ true)

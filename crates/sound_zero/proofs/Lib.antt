@@ -1,0 +1,2 @@
+-- The laws of blocks of cells.
+pub mod Blocks

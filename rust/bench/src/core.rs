@@ -1,0 +1,128 @@
+//! The parts of the proved core that `rt staticlib measured` exports, with no soundness test in front.
+
+use crate::tables::Tables;
+
+extern "C" {
+    fn skein_measure_rights_on(rules: *const u64, rules_len: usize, object: u64) -> u64;
+    fn skein_measure_missing(
+        entries: *const u64,
+        entries_len: usize,
+        rules: *const u64,
+        rules_len: usize,
+        entry: u64,
+        asked: u64,
+    ) -> u64;
+    fn skein_measure_lacks(
+        entries: *const u64,
+        entries_len: usize,
+        layers: *const u64,
+        layers_len: usize,
+        pool: *const u64,
+        pool_len: usize,
+        youngest: u64,
+        entry: u64,
+        asked: u64,
+    ) -> u64;
+    fn skein_measure_rename(
+        entries: *const u64,
+        entries_len: usize,
+        layers: *const u64,
+        layers_len: usize,
+        pool: *const u64,
+        pool_len: usize,
+        threads: *const u64,
+        threads_len: usize,
+        thread: u64,
+        source: u64,
+        directory: u64,
+    ) -> u64;
+    fn skein_measure_sound(
+        system: *const u64,
+        system_len: usize,
+        entries: *const u64,
+        entries_len: usize,
+        rulesets: *const u64,
+        rulesets_len: usize,
+        layers: *const u64,
+        layers_len: usize,
+        pool: *const u64,
+        pool_len: usize,
+        threads: *const u64,
+        threads_len: usize,
+    ) -> u64;
+}
+
+/// A table as its pointer and its length in cells.
+fn cells(table: &[u64]) -> (*const u64, usize) {
+    (table.as_ptr(), table.len())
+}
+
+/// The rights that the rules give an object.
+pub fn rights_on(rules: &[u64], object: u64) -> u64 {
+    let (rules, rules_len) = cells(rules);
+    // The core only reads, and no further than the length; so do all calls below.
+    unsafe { skein_measure_rights_on(rules, rules_len, object) }
+}
+
+/// Of the rights asked for, those that no rule from the entry up to the root grants.
+pub fn missing(entries: &[u64], rules: &[u64], entry: u64, asked: u64) -> u64 {
+    let (entries, entries_len) = cells(entries);
+    let (rules, rules_len) = cells(rules);
+    unsafe { skein_measure_missing(entries, entries_len, rules, rules_len, entry, asked) }
+}
+
+/// Whether the domain of a youngest layer (its number + 1, or 0) denies one of the rights at an entry.
+pub fn lacks(tables: &Tables, youngest: u64, entry: u64, asked: u64) -> bool {
+    let (entries, entries_len) = cells(&tables.entries);
+    let (layers, layers_len) = cells(&tables.layers);
+    let (pool, pool_len) = cells(&tables.pool);
+    let answer = unsafe {
+        skein_measure_lacks(
+            entries,
+            entries_len,
+            layers,
+            layers_len,
+            pool,
+            pool_len,
+            youngest,
+            entry,
+            asked,
+        )
+    };
+    answer != 0
+}
+
+/// The verdict on renaming an entry into a directory, with nothing replaced: 0 or an error number.
+pub fn rename_verdict(tables: &Tables, thread: u64, source: u64, directory: u64) -> u64 {
+    let (entries, entries_len) = cells(&tables.entries);
+    let (layers, layers_len) = cells(&tables.layers);
+    let (pool, pool_len) = cells(&tables.pool);
+    let (threads, threads_len) = cells(&tables.threads);
+    unsafe {
+        skein_measure_rename(
+            entries,
+            entries_len,
+            layers,
+            layers_len,
+            pool,
+            pool_len,
+            threads,
+            threads_len,
+            thread,
+            source,
+            directory,
+        )
+    }
+}
+
+/// Whether the tables are sound.
+pub fn is_sound(tables: &Tables) -> bool {
+    let [system, entries, rulesets, layers, pool, threads] = tables.all().map(|table| cells(table));
+    let answer = unsafe {
+        skein_measure_sound(
+            system.0, system.1, entries.0, entries.1, rulesets.0, rulesets.1, layers.0, layers.1,
+            pool.0, pool.1, threads.0, threads.1,
+        )
+    };
+    answer != 0
+}

@@ -1,0 +1,129 @@
+//! Whole calls over the cells, each with a soundness test in front. Answers are as the core's: the success number, or 2^64
+//! minus an error number.
+
+use super::verdict::{lacks, rename_verdict};
+use crate::landlock::{
+    held_rights, make_right, remove_right, ALL_FS, DIRECTORY, EACCES, EBUSY, EINVAL, EIO, ENOENT,
+    ENOSPC, ENOTDIR, ENOTEMPTY, ESRCH, LAST_KIND, OBJECTS_END,
+};
+use crate::tables::{Tables, ENTRY_WIDTH};
+
+/// A broker with its soundness test.
+#[derive(Clone, Copy)]
+pub struct Broker {
+    pub is_sound: fn(&Tables) -> bool,
+}
+
+type Answer = Result<u64, u64>;
+
+fn refuse(applies: bool, errno: u64) -> Result<(), u64> {
+    if applies {
+        Err(errno)
+    } else {
+        Ok(())
+    }
+}
+
+fn number(answer: Answer) -> u64 {
+    answer.unwrap_or_else(u64::wrapping_neg)
+}
+
+impl Broker {
+    /// Whether a thread may use an entry with the rights.
+    pub fn access(self, tables: &Tables, thread: u64, entry: u64, asked: u64) -> u64 {
+        number(self.accessed(tables, thread, entry, asked))
+    }
+
+    /// Creates an entry of a kind in a directory; answers its number.
+    pub fn create(self, tables: &mut Tables, thread: u64, directory: u64, kind: u64) -> u64 {
+        number(self.created(tables, thread, directory, kind))
+    }
+
+    /// Removes an entry.
+    pub fn remove(self, tables: &mut Tables, thread: u64, entry: u64) -> u64 {
+        number(self.removed(tables, thread, entry))
+    }
+
+    /// Renames an entry into a directory, with nothing replaced.
+    pub fn rename(self, tables: &mut Tables, thread: u64, source: u64, directory: u64) -> u64 {
+        number(self.renamed(tables, thread, source, directory))
+    }
+
+    /// What every call tests first.
+    fn begin(self, tables: &Tables, thread: u64) -> Result<(), u64> {
+        refuse(!(self.is_sound)(tables), EIO)?;
+        refuse(!tables.is_thread(thread), ESRCH)
+    }
+
+    fn accessed(self, tables: &Tables, thread: u64, entry: u64, asked: u64) -> Answer {
+        self.begin(tables, thread)?;
+        let kind = tables.kind(entry);
+        refuse(kind == 0, ENOENT)?;
+        refuse(asked == 0 || asked & !ALL_FS != 0, EINVAL)?;
+        refuse(asked & !held_rights(kind) != 0, EINVAL)?;
+        let denied = lacks(tables, tables.youngest(thread), entry, asked);
+        refuse(denied, EACCES)?;
+        Ok(0)
+    }
+
+    fn created(self, tables: &mut Tables, thread: u64, directory: u64, kind: u64) -> Answer {
+        self.begin(tables, thread)?;
+        refuse(tables.kind(directory) == 0, ENOENT)?;
+        refuse(tables.kind(directory) != DIRECTORY, ENOTDIR)?;
+        refuse(kind == 0 || kind > LAST_KIND, EINVAL)?;
+        let right = make_right(kind);
+        let denied = lacks(tables, tables.youngest(thread), directory, right);
+        refuse(denied, EACCES)?;
+        let entry = free_entry(tables).ok_or(ENOSPC)?;
+        let object = tables.system[1];
+        refuse(object == OBJECTS_END, ENOSPC)?;
+        tables.system[1] = object + 1;
+        tables.put_entry(entry, [kind, directory, object]);
+        Ok(entry)
+    }
+
+    fn removed(self, tables: &mut Tables, thread: u64, entry: u64) -> Answer {
+        self.begin(tables, thread)?;
+        let kind = tables.kind(entry);
+        refuse(kind == 0, ENOENT)?;
+        refuse(entry == 0, EBUSY)?;
+        let right = remove_right(kind);
+        let denied = lacks(tables, tables.youngest(thread), tables.parent(entry), right);
+        refuse(denied, EACCES)?;
+        refuse(kind == DIRECTORY && has_child(tables, entry), ENOTEMPTY)?;
+        tables.put_entry(entry, [0; ENTRY_WIDTH]);
+        Ok(0)
+    }
+
+    fn renamed(self, tables: &mut Tables, thread: u64, source: u64, directory: u64) -> Answer {
+        self.begin(tables, thread)?;
+        refuse(tables.kind(source) == 0, ENOENT)?;
+        refuse(tables.kind(directory) == 0, ENOENT)?;
+        refuse(source == 0, EBUSY)?;
+        refuse(tables.kind(directory) != DIRECTORY, ENOTDIR)?;
+        refuse(is_above(tables, source, directory), EINVAL)?;
+        let verdict = rename_verdict(tables, thread, source, directory);
+        refuse(verdict != 0, verdict)?;
+        tables.entries[ENTRY_WIDTH * source as usize + 1] = directory;
+        Ok(0)
+    }
+}
+
+/// Whether an entry is another one or stands above it.
+pub fn is_above(tables: &Tables, entry: u64, mut other: u64) -> bool {
+    while other != entry && other != 0 {
+        other = tables.parent(other);
+    }
+    other == entry
+}
+
+fn free_entry(tables: &Tables) -> Option<u64> {
+    let mut rows = tables.entries.chunks_exact(ENTRY_WIDTH);
+    let place = rows.position(|row| row[0] == 0)?;
+    Some(place as u64)
+}
+
+fn has_child(tables: &Tables, directory: u64) -> bool {
+    let mut rows = tables.entries.chunks_exact(ENTRY_WIDTH).skip(1);
+    rows.any(|row| row[0] != 0 && row[1] == directory)
+}

@@ -1,0 +1,6 @@
+//! The same work in ordinary Rust.
+
+pub mod broker;
+pub mod own;
+pub mod soundness;
+pub mod verdict;

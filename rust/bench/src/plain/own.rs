@@ -1,0 +1,120 @@
+//! Verdicts over structures of its own, made from the cells once.
+
+use super::verdict::Move;
+use crate::landlock::{EACCES, EXDEV, PATH_RULE, REFER};
+use crate::tables::{Tables, ENTRY_WIDTH, LAYER_WIDTH, RULE_WIDTH, THREAD_WIDTH};
+use std::collections::HashMap;
+
+struct Entry {
+    kind: u64,
+    parent: usize,
+    object: u64,
+}
+
+struct Layer {
+    handled: u64,
+    /// The rights of the rule on each object.
+    rules: HashMap<u64, u64>,
+}
+
+pub struct Policy {
+    entries: Vec<Entry>,
+    layers: Vec<Layer>,
+    /// The layers of each thread's domain, youngest first.
+    domains: Vec<Vec<usize>>,
+}
+
+impl Policy {
+    /// The policy that sound tables show.
+    pub fn new(tables: &Tables) -> Policy {
+        let entries = tables.entries.chunks_exact(ENTRY_WIDTH).map(|row| Entry {
+            kind: row[0],
+            parent: row[1] as usize,
+            object: row[2],
+        });
+        let layers = tables.layers.chunks_exact(LAYER_WIDTH);
+        let threads = tables.threads.chunks_exact(THREAD_WIDTH);
+        Policy {
+            entries: entries.collect(),
+            layers: layers.map(|row| layer(tables, row)).collect(),
+            domains: threads.map(|row| domain(tables, row[1])).collect(),
+        }
+    }
+
+    /// The layers of a thread's domain.
+    fn domain(&self, thread: usize) -> impl Iterator<Item = &Layer> {
+        self.domains[thread]
+            .iter()
+            .map(|number| &self.layers[*number])
+    }
+
+    /// Of the rights asked for at an entry, those that the layer denies.
+    fn denied(&self, layer: &Layer, mut entry: usize, asked: u64) -> u64 {
+        let mut missing = asked & layer.handled;
+        loop {
+            let Entry { parent, object, .. } = self.entries[entry];
+            missing &= !layer.rights_on(object);
+            if entry == 0 || missing == 0 {
+                return missing;
+            }
+            entry = parent;
+        }
+    }
+
+    /// Whether the thread's domain denies one of the rights at an entry.
+    pub fn lacks(&self, thread: usize, entry: usize, asked: u64) -> bool {
+        self.domain(thread)
+            .any(|layer| self.denied(layer, entry, asked) != 0)
+    }
+
+    /// The verdict on renaming an entry into a directory, with nothing replaced: 0 or an error number.
+    pub fn rename_verdict(&self, thread: usize, source: usize, directory: usize) -> u64 {
+        let Entry {
+            kind,
+            parent,
+            object,
+        } = self.entries[source];
+        let step = Move::new(kind, parent as u64, directory as u64, object);
+        let compared = step.compared();
+        let mut crossing = false;
+        for layer in self.domain(thread) {
+            let at_source = self.denied(layer, parent, step.leave | compared);
+            let at_target = self.denied(layer, directory, step.enter | compared);
+            if step.is_denied(at_source, at_target) {
+                return EACCES;
+            }
+            let own = || layer.rights_on(object);
+            crossing = crossing || step.is_crossing(at_source, at_target, own);
+        }
+        if crossing {
+            EXDEV
+        } else {
+            0
+        }
+    }
+}
+
+impl Layer {
+    fn rights_on(&self, object: u64) -> u64 {
+        self.rules.get(&object).copied().unwrap_or(0)
+    }
+}
+
+fn layer(tables: &Tables, row: &[u64]) -> Layer {
+    let rules = &tables.pool[RULE_WIDTH * row[4] as usize..][..RULE_WIDTH * row[5] as usize];
+    let rules = rules.chunks_exact(RULE_WIDTH);
+    Layer {
+        handled: row[1] | REFER,
+        rules: rules
+            .filter(|rule| rule[0] == PATH_RULE)
+            .map(|rule| (rule[1], rule[2]))
+            .collect(),
+    }
+}
+
+/// The layers of the domain with a youngest layer (its number + 1, or 0).
+fn domain(tables: &Tables, youngest: u64) -> Vec<usize> {
+    let number = |layer: u64| layer.checked_sub(1).map(|number| number as usize);
+    let parent = |layer: &usize| number(tables.layers[LAYER_WIDTH * layer]);
+    std::iter::successors(number(youngest), parent).collect()
+}

@@ -1,0 +1,178 @@
+//! The soundness test: the clauses that any way of testing shares. What takes long has two ways.
+
+mod buckets;
+mod pairwise;
+
+pub use buckets::Buckets;
+pub use pairwise::Pairwise;
+
+use crate::landlock::{
+    known_rights, DIRECTORY, FILE_SET, LAST_KIND, LAST_LEVEL, LAST_PORT, OBJECTS_END, PATH_RULE,
+    PORT_RULE,
+};
+use crate::tables::{
+    Tables, DOMAIN, ENTRIES, ENTRY_WIDTH, LAYERS, LAYER_WIDTH, POOL, RULES, RULESET_HEAD,
+    RULESET_WIDTH, RULE_WIDTH, THREAD_WIDTH,
+};
+use skeinrabbit_sys::SIZES;
+
+/// A way to test what takes long.
+pub trait Method<'a>: Sized {
+    /// Reads entries whose rows are sound each by itself. None if a climb doesn't end at entry 0, or if two entries of one
+    /// object differ in kind or are directories.
+    fn new(entries: &'a [u64]) -> Option<Self>;
+
+    /// Whether some live entry other than a directory has the object.
+    fn is_file_object(&self, object: u64) -> bool;
+
+    /// Whether no two rules are for the same object or port.
+    fn keys_distinct(rules: &[u64]) -> bool;
+
+    /// Whether the runs of layers in use, each within the pool, don't overlap.
+    fn runs_apart(layers: &[u64]) -> bool;
+
+    fn all_zero(cells: &[u64]) -> bool;
+}
+
+/// Whether the tables are sound, for tables of any length and contents. That there is no ruleset and no layer at level 0
+/// follows: each handles something, and level 0 knows no right.
+pub fn is_sound<'a, M: Method<'a>>(tables: &'a Tables) -> bool {
+    let lengths_right = tables.all().map(|table| table.len()) == SIZES;
+    lengths_right
+        && system_sound(&tables.system)
+        && threads_sound(tables)
+        && entries_sound(&tables.entries, tables.system[1])
+        && M::new(&tables.entries).is_some_and(|method| {
+            let rules = RuleTest::new(tables, method);
+            rules.rulesets_sound(&tables.rulesets) && rules.layers_sound(tables)
+        })
+}
+
+fn system_sound(system: &[u64]) -> bool {
+    system[0] <= LAST_LEVEL
+        && (1..=OBJECTS_END).contains(&system[1])
+        && system[2] <= LAYERS as u64
+        && system[3] <= POOL as u64
+}
+
+fn threads_sound(tables: &Tables) -> bool {
+    let mut rows = tables.threads.chunks_exact(THREAD_WIDTH);
+    rows.all(|row| match row[0] {
+        0 => row == [0; THREAD_WIDTH],
+        1 => {
+            let marks = row[2] <= 1 && row[3] <= 1;
+            marks && row[1] <= tables.system[2] && chain_ends(&tables.layers, row[1])
+        }
+        _ => false,
+    })
+}
+
+/// Whether the parents of a layer (its number + 1, or 0) come to none within the limit of a domain.
+fn chain_ends(layers: &[u64], youngest: u64) -> bool {
+    let mut at = youngest;
+    for _ in 0..DOMAIN {
+        if at == 0 {
+            return true;
+        }
+        let parent = (at - 1) as usize;
+        at = match layers.chunks_exact(LAYER_WIDTH).nth(parent) {
+            Some(row) => row[0],
+            None => 0,
+        };
+    }
+    at == 0
+}
+
+/// Whether entry 0 is the root and every row is sound by itself.
+fn entries_sound(entries: &[u64], next_object: u64) -> bool {
+    entries[..ENTRY_WIDTH] == [DIRECTORY, 0, 0]
+        && entries.chunks_exact(ENTRY_WIDTH).all(|row| {
+            let (kind, parent, object) = (row[0], row[1], row[2]);
+            if kind == 0 {
+                return parent | object == 0;
+            }
+            let below_directory =
+                parent < ENTRIES as u64 && entries[ENTRY_WIDTH * parent as usize] == DIRECTORY;
+            kind <= LAST_KIND && below_directory && object < next_object
+        })
+}
+
+/// What rules and masks are tested against.
+struct RuleTest<M> {
+    next_object: u64,
+    known: [u64; 3],
+    method: M,
+}
+
+impl<'a, M: Method<'a>> RuleTest<M> {
+    fn new(tables: &Tables, method: M) -> RuleTest<M> {
+        RuleTest {
+            next_object: tables.system[1],
+            known: known_rights(tables.system[0]),
+            method,
+        }
+    }
+
+    fn rulesets_sound(&self, rulesets: &[u64]) -> bool {
+        let mut rows = rulesets.chunks_exact(RULESET_WIDTH);
+        rows.all(|row| {
+            let (masks, count) = (&row[..3], row[3]);
+            if masks == [0; 3] {
+                return M::all_zero(row);
+            }
+            if count > RULES as u64 || !self.masks_known(masks) {
+                return false;
+            }
+            let (rules, free) = row[RULESET_HEAD..].split_at(RULE_WIDTH * count as usize);
+            M::all_zero(free) && self.rules_sound(masks, rules)
+        })
+    }
+
+    fn layers_sound(&self, tables: &Tables) -> bool {
+        let (layers, free_layers) = tables
+            .layers
+            .split_at(LAYER_WIDTH * tables.system[2] as usize);
+        let (pool, free_pool) = tables.pool.split_at(RULE_WIDTH * tables.system[3] as usize);
+        let mut rows = layers.chunks_exact(LAYER_WIDTH).enumerate();
+        rows.all(|(number, row)| row[0] <= number as u64 && self.layer_sound(row, pool))
+            && M::runs_apart(layers)
+            && M::all_zero(free_layers)
+            && M::all_zero(free_pool)
+    }
+
+    /// Tests a layer's row but for its parent; the pool is the part in use.
+    fn layer_sound(&self, row: &[u64], pool: &[u64]) -> bool {
+        let (masks, first, count) = (&row[1..4], row[4], row[5]);
+        let used = (pool.len() / RULE_WIDTH) as u64;
+        let placed = count <= RULES as u64 && first <= used && count <= used - first;
+        if !placed || (count == 0 && first != 0) {
+            return false;
+        }
+        let rules = &pool[RULE_WIDTH * first as usize..][..RULE_WIDTH * count as usize];
+        masks != [0; 3] && self.masks_known(masks) && self.rules_sound(masks, rules)
+    }
+
+    fn masks_known(&self, masks: &[u64]) -> bool {
+        let mut pairs = masks.iter().zip(self.known);
+        pairs.all(|(mask, known)| mask & !known == 0)
+    }
+
+    fn rules_sound(&self, masks: &[u64], rules: &[u64]) -> bool {
+        let mut each = rules.chunks_exact(RULE_WIDTH);
+        each.all(|rule| self.rule_sound(masks, rule)) && M::keys_distinct(rules)
+    }
+
+    fn rule_sound(&self, masks: &[u64], rule: &[u64]) -> bool {
+        let (key, rights) = (rule[1], rule[2]);
+        let sound = match rule[0] {
+            PATH_RULE => {
+                key < self.next_object
+                    && rights & !masks[0] == 0
+                    && (rights & !FILE_SET == 0 || !self.method.is_file_object(key))
+            }
+            PORT_RULE => key <= LAST_PORT && rights & !masks[1] == 0,
+            _ => false,
+        };
+        sound && rights != 0
+    }
+}

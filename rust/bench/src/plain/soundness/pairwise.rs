@@ -1,0 +1,70 @@
+//! Loops over pairs.
+
+use super::Method;
+use crate::landlock::DIRECTORY;
+use crate::tables::{ENTRIES, ENTRY_WIDTH, LAYER_WIDTH, RULE_WIDTH};
+
+pub struct Pairwise<'a> {
+    entries: &'a [u64],
+}
+
+impl<'a> Method<'a> for Pairwise<'a> {
+    fn new(entries: &'a [u64]) -> Option<Pairwise<'a>> {
+        let climbs_end = (0..ENTRIES).all(|entry| reaches_root(entries, entry));
+        let sound = climbs_end && (0..ENTRIES).all(|entry| links_sound(entries, entry));
+        sound.then_some(Pairwise { entries })
+    }
+
+    fn is_file_object(&self, object: u64) -> bool {
+        let mut rows = self.entries.chunks_exact(ENTRY_WIDTH);
+        rows.any(|row| row[2] == object && row[0] != 0 && row[0] != DIRECTORY)
+    }
+
+    fn keys_distinct(rules: &[u64]) -> bool {
+        let mut each = rules.chunks_exact(RULE_WIDTH).enumerate();
+        each.all(|(number, rule)| {
+            let mut before = rules.chunks_exact(RULE_WIDTH).take(number);
+            before.all(|other| other[1] != rule[1] || other[0] != rule[0])
+        })
+    }
+
+    fn runs_apart(layers: &[u64]) -> bool {
+        let mut each = layers.chunks_exact(LAYER_WIDTH).enumerate();
+        each.all(|(number, row)| {
+            let mut before = layers.chunks_exact(LAYER_WIDTH).take(number);
+            before.all(|other| other[4] + other[5] <= row[4] || row[4] + row[5] <= other[4])
+        })
+    }
+
+    fn all_zero(cells: &[u64]) -> bool {
+        cells.iter().all(|cell| *cell == 0)
+    }
+}
+
+/// Whether climbing comes to entry 0; a free row's parent cell is 0.
+fn reaches_root(entries: &[u64], entry: usize) -> bool {
+    let mut at = entry;
+    for _ in 0..ENTRIES {
+        if at == 0 {
+            return true;
+        }
+        at = entries[ENTRY_WIDTH * at + 1] as usize;
+    }
+    false
+}
+
+/// Whether the entries before a live one that share its object agree with it.
+fn links_sound(entries: &[u64], entry: usize) -> bool {
+    let (before, row) = entries.split_at(ENTRY_WIDTH * entry);
+    let (kind, object) = (row[0], row[2]);
+    if kind == 0 {
+        return true;
+    }
+    let mut before = before.chunks_exact(ENTRY_WIDTH);
+    before.all(|other| {
+        if other[2] != object || other[0] == 0 {
+            return true;
+        }
+        other[0] == kind && kind != DIRECTORY
+    })
+}

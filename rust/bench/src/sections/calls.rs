@@ -1,0 +1,191 @@
+//! Whole calls: a soundness test, the refusals, the change.
+
+use super::policies;
+use super::verdicts::access_request;
+use crate::inputs::{Questions, Random};
+use crate::landlock::{DIRECTORY, REGULAR};
+use crate::measure::{against, differ, line, table, time, Effort, Side};
+use crate::plain::broker::Broker;
+use crate::plain::soundness::{is_sound, Buckets, Pairwise};
+use crate::plain::verdict::rename_verdict;
+use crate::tables::Tables;
+
+/// All calls are those of thread 0.
+const THREAD: u64 = 0;
+/// Calls that are compared and, at least, timed in a run.
+const COMPARED: u64 = 64;
+const TIMED: u64 = 8;
+
+pub fn run(effort: Effort) {
+    table(&[
+        "Call",
+        "proved core",
+        "plain broker, pairwise test",
+        "ratio",
+        "plain broker, fast test",
+        "ratio",
+    ]);
+    let policies = policies();
+    for (name, tables) in &policies {
+        let script = Script::access(tables);
+        compare(effort, &format!("access, {name}"), tables, &script);
+    }
+    for (name, tables) in &policies {
+        let script = Script::rename(tables);
+        compare(effort, &format!("rename, {name}"), tables, &script);
+    }
+    for (name, tables) in &policies {
+        let script = Script::create(tables);
+        compare(
+            effort,
+            &format!("create or remove, {name}"),
+            tables,
+            &script,
+        );
+    }
+}
+
+/// What answers the calls.
+#[derive(Clone, Copy)]
+enum Program {
+    Core,
+    Plain(Broker),
+}
+
+const PROGRAMS: [Program; 3] = [
+    Program::Core,
+    Program::Plain(Broker {
+        is_sound: |tables| is_sound::<Pairwise>(tables),
+    }),
+    Program::Plain(Broker {
+        is_sound: |tables| is_sound::<Buckets>(tables),
+    }),
+];
+
+impl Program {
+    fn access(self, tables: &mut Tables, entry: u64, asked: u64) -> u64 {
+        match self {
+            Program::Core => skeinrabbit_sys::access(&mut tables.cells(), THREAD, entry, asked),
+            Program::Plain(broker) => broker.access(tables, THREAD, entry, asked),
+        }
+    }
+
+    fn rename(self, tables: &mut Tables, source: u64, directory: u64) -> u64 {
+        match self {
+            Program::Core => {
+                skeinrabbit_sys::rename(&mut tables.cells(), THREAD, source, directory, 0, 0)
+            }
+            Program::Plain(broker) => broker.rename(tables, THREAD, source, directory),
+        }
+    }
+
+    fn create(self, tables: &mut Tables, directory: u64, kind: u64) -> u64 {
+        match self {
+            Program::Core => skeinrabbit_sys::create(&mut tables.cells(), THREAD, directory, kind),
+            Program::Plain(broker) => broker.create(tables, THREAD, directory, kind),
+        }
+    }
+
+    fn remove(self, tables: &mut Tables, entry: u64) -> u64 {
+        match self {
+            Program::Core => skeinrabbit_sys::remove(&mut tables.cells(), THREAD, entry),
+            Program::Plain(broker) => broker.remove(tables, THREAD, entry),
+        }
+    }
+}
+
+/// Calls that can go on for ever: after each even number of them the tree is as before.
+enum Script {
+    Access(Questions<(u64, u64)>),
+    /// A file from one directory to another, and back.
+    Rename(Questions<[u64; 3]>),
+    /// The last entry, a file: removed, then created again in its directory.
+    Create {
+        entry: u64,
+        directory: u64,
+    },
+}
+
+impl Script {
+    fn access(tables: &Tables) -> Script {
+        let mut random = Random::new(31);
+        Script::Access(Questions::new(|| access_request(tables, &mut random)))
+    }
+
+    fn rename(tables: &Tables) -> Script {
+        let mut random = Random::new(32);
+        Script::Rename(Questions::new(|| granted_rename(tables, &mut random)))
+    }
+
+    fn create(tables: &Tables) -> Script {
+        let entry = tables.live_entries() - 1;
+        Script::Create {
+            entry,
+            directory: tables.parent(entry),
+        }
+    }
+
+    /// Whether some of the calls are refused.
+    fn may_refuse(&self) -> bool {
+        matches!(self, Script::Access(_))
+    }
+
+    fn call(&self, program: Program, tables: &mut Tables, i: u64) -> u64 {
+        let back = i % 2 == 1;
+        match self {
+            Script::Access(requests) => {
+                let (entry, asked) = requests.at(i);
+                program.access(tables, entry, asked)
+            }
+            Script::Rename(requests) => {
+                let [source, home, away] = requests.at(i / 2);
+                program.rename(tables, source, if back { home } else { away })
+            }
+            Script::Create { directory, .. } if back => program.create(tables, *directory, REGULAR),
+            Script::Create { entry, .. } => program.remove(tables, *entry),
+        }
+    }
+}
+
+/// A random file, its directory, and another one, such that the thread may rename it there and back.
+fn granted_rename(tables: &Tables, random: &mut Random) -> [u64; 3] {
+    loop {
+        let source = 1 + random.below(tables.live_entries() - 1);
+        let away = random.below(tables.live_entries());
+        if tables.kind(source) == DIRECTORY || tables.kind(away) != DIRECTORY {
+            continue;
+        }
+        let home = tables.parent(source);
+        let mut moved = tables.clone();
+        moved.put_entry(source, [tables.kind(source), away, tables.object(source)]);
+        let granted = rename_verdict(tables, THREAD, source, away) == 0
+            && rename_verdict(&moved, THREAD, source, home) == 0;
+        if granted && home != away {
+            return [source, home, away];
+        }
+    }
+}
+
+fn compare(effort: Effort, name: &str, tables: &Tables, script: &Script) {
+    let ends = PROGRAMS.map(|program| play(program, tables.clone(), script));
+    if ends.iter().any(|end| *end != ends[0]) {
+        differ(name);
+    }
+    assert!(
+        script.may_refuse() || ends[0].0.iter().all(|answer| *answer <= u32::MAX.into()),
+        "{name}: every call is granted"
+    );
+    let mut sides = PROGRAMS.map(|program| {
+        let mut tables = tables.clone();
+        move |i: u64| script.call(program, &mut tables, i)
+    });
+    let [core, pairwise, fast] = sides.each_mut().map(|side| side as &mut dyn Side);
+    let times = time(effort, TIMED, &mut [core, pairwise, fast]);
+    line(name, &against(times[0], &times[1..]));
+}
+
+/// The answers to the first calls, and the tables they leave.
+fn play(program: Program, mut tables: Tables, script: &Script) -> (Vec<u64>, Tables) {
+    let answers = (0..COMPARED).map(|i| script.call(program, &mut tables, i));
+    (answers.collect(), tables)
+}

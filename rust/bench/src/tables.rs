@@ -1,0 +1,125 @@
+//! The six tables of cells that both sides work on.
+
+use skeinrabbit_sys::{Cells, SIZES};
+
+pub const ENTRIES: usize = 1024;
+pub const LAYERS: usize = 64;
+pub const POOL: usize = 1024;
+
+/// Rules to a ruleset or a layer.
+pub const RULES: usize = 64;
+/// Layers to a domain.
+pub const DOMAIN: usize = 16;
+
+pub const ENTRY_WIDTH: usize = 3;
+pub const RULE_WIDTH: usize = 3;
+/// The cells of a ruleset before its rules.
+pub const RULESET_HEAD: usize = 4;
+pub const RULESET_WIDTH: usize = RULESET_HEAD + RULE_WIDTH * RULES;
+pub const LAYER_WIDTH: usize = 6;
+pub const THREAD_WIDTH: usize = 4;
+
+/// The cells of a row of each table.
+pub const WIDTHS: [usize; 6] = [
+    4,
+    ENTRY_WIDTH,
+    RULESET_WIDTH,
+    LAYER_WIDTH,
+    RULE_WIDTH,
+    THREAD_WIDTH,
+];
+
+#[derive(Clone, PartialEq, Eq)]
+pub struct Tables {
+    pub system: Vec<u64>,
+    pub entries: Vec<u64>,
+    pub rulesets: Vec<u64>,
+    pub layers: Vec<u64>,
+    pub pool: Vec<u64>,
+    pub threads: Vec<u64>,
+}
+
+impl Tables {
+    pub fn zero() -> Tables {
+        let [system, entries, rulesets, layers, pool, threads] = SIZES.map(|size| vec![0; size]);
+        Tables {
+            system,
+            entries,
+            rulesets,
+            layers,
+            pool,
+            threads,
+        }
+    }
+
+    /// The tables as the core's calls take them.
+    pub fn cells(&mut self) -> Cells<'_> {
+        Cells {
+            system: &mut self.system,
+            entries: &mut self.entries,
+            rulesets: &mut self.rulesets,
+            layers: &mut self.layers,
+            pool: &mut self.pool,
+            threads: &mut self.threads,
+        }
+    }
+
+    pub fn all(&self) -> [&Vec<u64>; 6] {
+        [
+            &self.system,
+            &self.entries,
+            &self.rulesets,
+            &self.layers,
+            &self.pool,
+            &self.threads,
+        ]
+    }
+
+    pub fn all_mut(&mut self) -> [&mut Vec<u64>; 6] {
+        [
+            &mut self.system,
+            &mut self.entries,
+            &mut self.rulesets,
+            &mut self.layers,
+            &mut self.pool,
+            &mut self.threads,
+        ]
+    }
+
+    /// An entry's kind; 0 for a number that is no live entry's.
+    pub fn kind(&self, entry: u64) -> u64 {
+        if entry < ENTRIES as u64 {
+            self.entries[ENTRY_WIDTH * entry as usize]
+        } else {
+            0
+        }
+    }
+
+    pub fn parent(&self, entry: u64) -> u64 {
+        self.entries[ENTRY_WIDTH * entry as usize + 1]
+    }
+
+    pub fn object(&self, entry: u64) -> u64 {
+        self.entries[ENTRY_WIDTH * entry as usize + 2]
+    }
+
+    pub fn put_entry(&mut self, entry: u64, row: [u64; ENTRY_WIDTH]) {
+        self.entries[ENTRY_WIDTH * entry as usize..][..ENTRY_WIDTH].copy_from_slice(&row);
+    }
+
+    pub fn is_thread(&self, thread: u64) -> bool {
+        let mut rows = self.threads.chunks_exact(THREAD_WIDTH);
+        rows.nth(thread as usize).is_some_and(|row| row[0] != 0)
+    }
+
+    /// A live thread's youngest layer: its number + 1, or 0.
+    pub fn youngest(&self, thread: u64) -> u64 {
+        self.threads[THREAD_WIDTH * thread as usize + 1]
+    }
+
+    /// The number of live entries, which come first in the tables measured here.
+    pub fn live_entries(&self) -> u64 {
+        let rows = self.entries.chunks_exact(ENTRY_WIDTH);
+        rows.take_while(|row| row[0] != 0).count() as u64
+    }
+}
