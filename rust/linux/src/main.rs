@@ -30,7 +30,7 @@ use tally::Tally;
 
 const USAGE: &str = "usage: linux [--seed N] [--seconds N] [--scenarios N]";
 const DEFAULT_SEED: u64 = 1;
-const DEFAULT_SCENARIOS: u64 = 400;
+const DEFAULT_SCENARIOS: u64 = 8000;
 /// A scenario that takes longer hangs.
 const SCENARIO_SECONDS: u32 = 60;
 

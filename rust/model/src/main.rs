@@ -16,7 +16,7 @@ Drives the proved core and the model through random lists of calls, from random 
 damaged, and compares the reply and every cell after every call.
 
   --seed N     the seed of the random numbers (default 1)
-  --calls N    the calls to make (default 40000)
+  --calls N    the calls to make (default 1000000)
   --seconds N  stop after so many seconds; without --calls, only then
 
 Without a difference the answers are counted by call and the exit code is 0. A difference is printed
@@ -24,7 +24,7 @@ as a short scenario file, with exit code 1. Wrong arguments give exit code 2.
 ";
 
 /// The calls made where nothing else is said.
-const CALLS: u64 = 40_000;
+const CALLS: u64 = 1_000_000;
 
 fn main() -> ExitCode {
     let arguments: Vec<String> = std::env::args().skip(1).collect();
