@@ -7,9 +7,9 @@ use Rattle.laws.specs.Tests.{anyBelow, allOf}
 use Rattle.access.specs.Limits.{maxLevel, maxCounter, maxRulesets}
 use Rattle.tables.specs.Tables.{Tables, lengthsRight, level, counter, layersUsed, poolUsed}
 use Rattle.tables.specs.Layers.{isOpen}
-use Rattle.sound_tree.specs.Tree.{entriesSound, entriesTest}
-use Rattle.sound_rulesets.specs.Rulesets.{rulesetsSound, rulesetsTest}
-use Rattle.sound_layers.specs.Layers.{layersSound, layersTest}
+use Rattle.sound_tree.specs.Tree.{entriesSound}
+use Rattle.sound_rulesets.specs.Rulesets.{rulesetsSound}
+use Rattle.sound_layers.specs.Layers.{layersSound}
 use Rattle.sound_domains.specs.Domains.{threadsSound}
 
 -- "level .. and counters are in range": the counter holds the next object number, and 4,294,967,296 once none is left
@@ -39,15 +39,3 @@ partsSound T =
 -- "sound": the tables are well-formed. Else the answer is EIO
 unfoldable pub sound : Tables → Bool
 sound T = cond (lengthsRight T) (partsSound T) false
-
--- what the code of the parts answers: each looks at its table's length itself
-unfoldable pub partsTest : Tables → Bool
-partsTest T =
-    allOf
-    (systemSound (T .system)
-    ∷ levelZeroSound (T .system) (T .rulesets)
-    ∷ threadsSound (T .layers) (T .threads) (layersUsed (T .system))
-    ∷ entriesTest (T .entries) (counter (T .system))
-    ∷ rulesetsTest (T .entries) (counter (T .system)) (level (T .system)) (T .rulesets)
-    ∷ layersTest (T .entries) (counter (T .system)) (level (T .system)) (T .layers) (T .pool) (layersUsed (T .system)) (poolUsed (T .system))
-    ∷ [])

@@ -1,15 +1,19 @@
 // The soundness test of the threads and their domains.
 use access::limits::MAX_DOMAIN;
+use access::limits::MAX_LAYERS;
 use access::limits::MAX_THREADS;
-use tables::cells::row_read;
 use tables::rows::LAYER_WIDTH;
 use tables::rows::THREAD_WIDTH;
 ghost use mathlib.Core.Path.{_≡_};
-ghost use Rattle.access.specs.Limits.{maxDomain};
-ghost use Rattle.sound_domains.specs.Domains.{chainEnds, liveSound, freeSound, threadSound, threadsSound};
+ghost use Prim.Native.Nat.{_*_, _<_};
+ghost use lib.ListN.{length};
+ghost use Rattle.access.specs.Limits.{maxDomain, maxLayers, maxThreads};
+ghost use Rattle.tables.specs.Tables.{layerWidth, threadWidth};
+ghost use Rattle.sound_domains.specs.Domains.{chainEnds, threadSound, threadsSound};
 
-// From a layer (its number + 1, or 0 for none) the parents come to none within the limit of a domain.
+// From a layer (its number + 1, or 0 for none) the parents come to none within the limit of a domain. A layer past the table has none.
 fn chain_ends(layers: &[u64], y: u64) -> bool
+    requires { ⌜ length (now layers) ≡ layerWidth * maxLayers ⌝ }
     ensures { λ r. ⌜ r ≡ chainEnds (now (layers .entry)) maxDomain y ⌝ }
 {
     let mut at = y;
@@ -18,58 +22,51 @@ fn chain_ends(layers: &[u64], y: u64) -> bool
         if at == 0 {
             return true;
         }
-        at = row_read(layers, LAYER_WIDTH, (at - 1) as usize, 0);
+        if at > MAX_LAYERS as u64 {
+            return true;
+        }
+        at = layers[LAYER_WIDTH * (at - 1) as usize];
         n -= 1;
     }
     at == 0
 }
 
-fn live_sound(layers: &[u64], threads: &[u64], used: u64, t: usize) -> bool
-    ensures { λ r. ⌜ r ≡ liveSound (now (layers .entry)) (now (threads .entry)) used t ⌝ }
+fn thread_sound(layers: &[u64], threads: &[u64], used: u64, t: usize) -> bool
+    requires { ⌜ (length (now layers) ≡ layerWidth * maxLayers) × ((length (now threads) ≡ threadWidth * maxThreads) × (t < maxThreads)) ⌝ }
+    ensures { λ r. ⌜ r ≡ threadSound (now (layers .entry)) (now (threads .entry)) used t ⌝ }
 {
-    if row_read(threads, THREAD_WIDTH, t, 0) != 1 {
+    let at = THREAD_WIDTH * t;
+    let state = threads[at];
+    let youngest = threads[at + 1];
+    let privs = threads[at + 2];
+    let admin = threads[at + 3];
+    if state == 0 {
+        if youngest != 0 {
+            return false;
+        }
+        if privs != 0 {
+            return false;
+        }
+        return admin == 0;
+    }
+    if state != 1 {
         return false;
     }
-    let youngest = row_read(threads, THREAD_WIDTH, t, 1);
     if youngest > used {
         return false;
     }
-    if row_read(threads, THREAD_WIDTH, t, 2) > 1 {
+    if privs > 1 {
         return false;
     }
-    if row_read(threads, THREAD_WIDTH, t, 3) > 1 {
+    if admin > 1 {
         return false;
     }
     chain_ends(layers, youngest)
 }
 
-fn free_sound(threads: &[u64], t: usize) -> bool
-    ensures { λ r. ⌜ r ≡ freeSound (now (threads .entry)) t ⌝ }
-{
-    if row_read(threads, THREAD_WIDTH, t, 1) != 0 {
-        return false;
-    }
-    if row_read(threads, THREAD_WIDTH, t, 2) != 0 {
-        return false;
-    }
-    if row_read(threads, THREAD_WIDTH, t, 3) != 0 {
-        return false;
-    }
-    true
-}
-
-fn thread_sound(layers: &[u64], threads: &[u64], used: u64, t: usize) -> bool
-    ensures { λ r. ⌜ r ≡ threadSound (now (layers .entry)) (now (threads .entry)) used t ⌝ }
-{
-    if tables::rows::thread_live(threads, t as u64) {
-        live_sound(layers, threads, used, t)
-    } else {
-        free_sound(threads, t)
-    }
-}
-
 // The threads are sound; `used` layers are in use.
 pub fn threads_sound(layers: &[u64], threads: &[u64], used: u64) -> bool
+    requires { ⌜ (length (now layers) ≡ layerWidth * maxLayers) × (length (now threads) ≡ threadWidth * maxThreads) ⌝ }
     ensures { λ r. ⌜ r ≡ threadsSound (now (layers .entry)) (now (threads .entry)) used ⌝ }
 {
     let mut t = 0;

@@ -1,9 +1,8 @@
 -- Document 01, "Tables are sound if": the clauses on layers and the pool.
-use mathlib.Core.Bool.{Bool, true, false, cond, _||_}
+use mathlib.Core.Bool.{Bool, true, cond, _||_}
 use mathlib.Core.List.{List, [], _∷_}
 use Prim.Native.Nat.{ℕ, _+_, _*_}
 use lib.Dec.{eqb, leb}
-use lib.ListN.{length}
 use Rattle.laws.specs.Tests.{allBelow, allOf}
 use Rattle.laws.specs.Cells.{part, zeros}
 use Rattle.access.specs.Limits.{maxLayers, maxRules, maxPool}
@@ -55,10 +54,3 @@ layersSound es next level ls ps used poolUsed =
     ∷ allBelow (runSound ls) used
     ∷ restZero ls ps used poolUsed
     ∷ [])
-
--- what the code answers: layers and pool have their lengths, and are sound
-unfoldable pub layersTest : List ℕ → ℕ → ℕ → List ℕ → List ℕ → ℕ → ℕ → Bool
-layersTest es next level ls ps used poolUsed =
-    cond (eqb (length ls) (layerWidth * maxLayers))
-    (cond (eqb (length ps) (ruleWidth * maxPool)) (layersSound es next level ls ps used poolUsed) false)
-    false

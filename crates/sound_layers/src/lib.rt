@@ -19,7 +19,7 @@ ghost use Rattle.laws.specs.Tests.{allBelow};
 ghost use Rattle.access.specs.Limits.{maxEntries, maxLayers, maxPool};
 ghost use Rattle.tables.specs.Tables.{entryWidth, layerWidth, ruleWidth};
 ghost use Rattle.sound_objects.specs.Objects.{Indexed};
-ghost use Rattle.sound_layers.specs.Layers.{runPlaced, layerSound, runSound, restZero, layersSound, layersTest};
+ghost use Rattle.sound_layers.specs.Layers.{runPlaced, layerSound, runSound, restZero, layersSound};
 ghost use Rattle.sound_layers.specs.Runs.{RunsPlaced, runClear, withRun};
 
 // The run of a layer, by its first rule and its number of rules.
@@ -154,7 +154,8 @@ fn rest_zero(layers: &[u64], pool: &[u64], used: u64, taken: u64) -> bool
     all_zero(&pool[at..POOL_CELLS])
 }
 
-fn all_sound(
+// The layers and the pool are sound; `next` is the counter of object numbers, `heads` and `links` are the index of objects.
+pub fn layers_sound(
     entries: &[u64],
     heads: &[u64],
     links: &[u64],
@@ -191,39 +192,4 @@ fn all_sound(
         return false;
     }
     rest_zero(layers, pool, used, taken)
-}
-
-// Layers and pool have their lengths and are sound; `next` is the counter of object numbers, `heads` and `links` are the
-// index of objects.
-pub fn layers_sound(
-    entries: &[u64],
-    heads: &[u64],
-    links: &[u64],
-    next: u64,
-    level: u64,
-    layers: &[u64],
-    pool: &[u64],
-    used: u64,
-    taken: u64,
-) -> bool
-    requires { ⌜ (length (now entries) ≡ entryWidth * maxEntries) × Indexed (now entries) (now heads) (now links) ⌝ }
-    ensures { λ r. ⌜ r ≡ layersTest (now (entries .entry)) next level (now (layers .entry)) (now (pool .entry)) used taken ⌝ }
-{
-    if layers.len() != LAYERS_CELLS {
-        return false;
-    }
-    if pool.len() != POOL_CELLS {
-        return false;
-    }
-    all_sound(
-        entries,
-        heads,
-        links,
-        next,
-        level,
-        layers,
-        pool,
-        used,
-        taken,
-    )
 }

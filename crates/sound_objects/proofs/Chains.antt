@@ -91,7 +91,7 @@ module _ {es : List ℕ} {b : ℕ} {q : ℕ → Bool} {whole : Bool} {at : ℕ} 
 
   -- what stands at its link
   pub walk-link : (links : List ℕ) → Linked es links maxEntries → (at ≡ 0 → ⊥) → getD links (at - 1) 0 ≡ latest es b (at - 1)
-  walk-link links L n = let s = walk-live n in L (at - 1) (s .0) ∙ ap (λ (o : ℕ). latest es o (at - 1)) (s .2)
+  walk-link links L n = let s = walk-live n in L (at - 1) (s .0) (s .1) ∙ ap (λ (o : ℕ). latest es o (at - 1)) (s .2)
 
   -- each step goes down
   pub walk-less : (links : List ℕ) → Linked es links maxEntries → (at ≡ 0 → ⊥) → getD links (at - 1) 0 < at

@@ -1,6 +1,6 @@
 -- An index of the live entries by their objects: a bucket for each fold of an object number, and in each bucket the entries from the highest number down.
 use mathlib.Core.Path.{_≡_}
-use mathlib.Core.Bool.{cond, _&&_}
+use mathlib.Core.Bool.{true, cond, _&&_}
 use mathlib.Core.List.{List}
 use Prim.Native.Nat.{ℕ, zero, suc, _<_, _%_}
 use lib.Dec.{eqb}
@@ -24,9 +24,9 @@ latest es b (suc e) = let r = latest es b e in cond (live es e && eqb (bucketOf 
 abbrev pub Headed : List ℕ → List ℕ → ℕ → Type 0
 Headed es heads n = (b : ℕ) → b < buckets → getD heads b 0 ≡ latest es b n
 
--- the links of the entries below n, each to the one before it in its object's bucket
+-- the links of the live entries below n, each to the one before it in its object's bucket
 abbrev pub Linked : List ℕ → List ℕ → ℕ → Type 0
-Linked es links n = (e : ℕ) → e < n → getD links e 0 ≡ latest es (bucketOf (object es e)) e
+Linked es links n = (e : ℕ) → e < n → live es e ≡ true → getD links e 0 ≡ latest es (bucketOf (object es e)) e
 
 abbrev pub Indexed : List ℕ → List ℕ → List ℕ → Type 0
 Indexed es heads links = (length heads ≡ buckets) × ((length links ≡ maxEntries) × (Headed es heads maxEntries × Linked es links maxEntries))

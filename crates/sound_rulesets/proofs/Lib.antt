@@ -1,2 +1,3 @@
 -- What sound rulesets are.
 pub mod Facts
+pub mod Rows

@@ -1,9 +1,8 @@
 -- Document 01, "Tables are sound if": the clauses on rulesets.
-use mathlib.Core.Bool.{Bool, false, cond}
+use mathlib.Core.Bool.{Bool, cond}
 use mathlib.Core.List.{List, [], _∷_}
 use Prim.Native.Nat.{ℕ, _+_, _*_}
-use lib.Dec.{eqb, leb}
-use lib.ListN.{length}
+use lib.Dec.{leb}
 use Rattle.laws.specs.Tests.{allBelow, allOf}
 use Rattle.laws.specs.Cells.{part, zeros}
 use Rattle.access.specs.Limits.{maxRulesets, maxRules}
@@ -33,7 +32,3 @@ rulesetSound es next level rs r =
 
 unfoldable pub rulesetsSound : List ℕ → ℕ → ℕ → List ℕ → Bool
 rulesetsSound es next level rs = allBelow (rulesetSound es next level rs) maxRulesets
-
--- what the code answers: the rulesets have their length, and are sound
-unfoldable pub rulesetsTest : List ℕ → ℕ → ℕ → List ℕ → Bool
-rulesetsTest es next level rs = cond (eqb (length rs) (rulesetWidth * maxRulesets)) (rulesetsSound es next level rs) false

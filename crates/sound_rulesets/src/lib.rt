@@ -8,45 +8,14 @@ use sound_zero::all_zero;
 use tables::rows::RULE_WIDTH;
 use tables::rows::RULESET_HEAD;
 use tables::rows::RULESET_WIDTH;
-use tables::rows::RULESETS_CELLS;
+use tables::rows::handles_any;
 ghost use mathlib.Core.Path.{_≡_};
 ghost use Prim.Native.Nat.{_*_, _<_};
 ghost use lib.ListN.{length};
 ghost use Rattle.access.specs.Limits.{maxEntries, maxRulesets};
 ghost use Rattle.tables.specs.Tables.{entryWidth, rulesetWidth};
 ghost use Rattle.sound_objects.specs.Objects.{Indexed};
-ghost use Rattle.sound_rulesets.specs.Rulesets.{openSound, rulesetSound, rulesetsSound, rulesetsTest};
-
-fn open_sound(
-    entries: &[u64],
-    heads: &[u64],
-    links: &[u64],
-    next: u64,
-    level: u64,
-    rulesets: &[u64],
-    r: usize,
-) -> bool
-    requires { ⌜ (length (now rulesets) ≡ rulesetWidth * maxRulesets) × ((r < maxRulesets) × ((length (now entries) ≡ entryWidth * maxEntries) × Indexed (now entries) (now heads) (now links))) ⌝ }
-    ensures { λ q. ⌜ q ≡ openSound (now (entries .entry)) next level (now (rulesets .entry)) r ⌝ }
-{
-    let at = RULESET_WIDTH * r;
-    let fs = Rights(rulesets[at]);
-    let net = Rights(rulesets[at + 1]);
-    let count = rulesets[at + 3] as usize;
-    if count > MAX_RULES {
-        return false;
-    }
-    if !masks_known(level, fs, net, Rights(rulesets[at + 2])) {
-        return false;
-    }
-    let from = at + RULESET_HEAD;
-    let to = from + RULE_WIDTH * count;
-    let end = at + RULESET_WIDTH;
-    if !all_zero(&rulesets[to..end]) {
-        return false;
-    }
-    rules_sound(entries, heads, links, next, fs, net, &rulesets[from..to])
-}
+ghost use Rattle.sound_rulesets.specs.Rulesets.{rulesetSound, rulesetsSound};
 
 fn ruleset_sound(
     entries: &[u64],
@@ -60,15 +29,31 @@ fn ruleset_sound(
     requires { ⌜ (length (now rulesets) ≡ rulesetWidth * maxRulesets) × ((r < maxRulesets) × ((length (now entries) ≡ entryWidth * maxEntries) × Indexed (now entries) (now heads) (now links))) ⌝ }
     ensures { λ q. ⌜ q ≡ rulesetSound (now (entries .entry)) next level (now (rulesets .entry)) r ⌝ }
 {
-    if tables::rows::ruleset_open(rulesets, r as u64) {
-        return open_sound(entries, heads, links, next, level, rulesets, r);
-    }
     let at = RULESET_WIDTH * r;
     let end = at + RULESET_WIDTH;
-    all_zero(&rulesets[at..end])
+    let fs = Rights(rulesets[at]);
+    let net = Rights(rulesets[at + 1]);
+    let scope = Rights(rulesets[at + 2]);
+    if !handles_any(fs, net, scope) {
+        return all_zero(&rulesets[at..end]);
+    }
+    let count = rulesets[at + 3] as usize;
+    if count > MAX_RULES {
+        return false;
+    }
+    if !masks_known(level, fs, net, scope) {
+        return false;
+    }
+    let from = at + RULESET_HEAD;
+    let to = from + RULE_WIDTH * count;
+    if !all_zero(&rulesets[to..end]) {
+        return false;
+    }
+    rules_sound(entries, heads, links, next, fs, net, &rulesets[from..to])
 }
 
-fn each_sound(
+// The rulesets are sound; `next` is the counter of object numbers, `heads` and `links` are the index of objects.
+pub fn rulesets_sound(
     entries: &[u64],
     heads: &[u64],
     links: &[u64],
@@ -88,23 +73,4 @@ fn each_sound(
         }
     }
     true
-}
-
-// The rulesets have their length and are sound; `next` is the counter of object numbers, `heads` and `links` are the
-// index of objects.
-pub fn rulesets_sound(
-    entries: &[u64],
-    heads: &[u64],
-    links: &[u64],
-    next: u64,
-    level: u64,
-    rulesets: &[u64],
-) -> bool
-    requires { ⌜ (length (now entries) ≡ entryWidth * maxEntries) × Indexed (now entries) (now heads) (now links) ⌝ }
-    ensures { λ q. ⌜ q ≡ rulesetsTest (now (entries .entry)) next level (now (rulesets .entry)) ⌝ }
-{
-    if rulesets.len() != RULESETS_CELLS {
-        return false;
-    }
-    each_sound(entries, heads, links, next, level, rulesets)
 }

@@ -54,7 +54,7 @@ unfolding isDir
 same-dir es e f h = ap (λ (k : ℕ). eqb k directory) h
 
 module _ (es : List ℕ) (w : length es ≡ entryWidth * maxEntries) where
-  in-table : (e : ℕ) → live es e ≡ true → e < maxEntries
+  pub in-table : (e : ℕ) → live es e ≡ true → e < maxEntries
   unfolding live
   in-table e l = split (ltb e maxEntries) (ltb-true e maxEntries)
       (λ q. let g : maxEntries ≤ e = ltb-false e maxEntries q in

@@ -2,20 +2,35 @@
 use mathlib.Core.Path.{_≡_, refl, sym, ap, _∙_}
 use mathlib.Core.Bool.{Bool, true, false, not, _&&_}
 use mathlib.Core.List.{List, [], _∷_}
-use Prim.Native.Nat.{ℕ, _*_}
-use lib.Dec.{eqb, leb}
+use Prim.Native.Nat.{ℕ, _+_, _*_, _≤_}
+use native.Mathlib.Omega.{arith}
+use lib.Dec.{eqb, ltb, leb}
 use lib.ListN.{length}
-use borrow.Author.Tests.{eq-eqb, ne-eqb, eqb-true, not-true, not-false}
+use borrow.Author.Tests.{eq-eqb, ne-eqb, eqb-true, ltb-true, ltb-false, not-true, not-false}
 use Rattle.laws.specs.Tests.{allBelow, anyBelow, allOf}
 use Rattle.laws.proofs.Bools.{and-l, and-r, clash, split, agree, cond-then, cond-else, cond-of}
+use Rattle.laws.proofs.Cells.{past}
 use Rattle.laws.proofs.Tests.{all-at, all-of, none-at, none-of, allOf-at, allOf-of, met, _also_}
 use Rattle.access.specs.Kinds.{directory, lastKind}
 use Rattle.access.specs.Limits.{maxEntries}
-use Rattle.tables.specs.Tables.{entryWidth, object, live, isDir}
+use Rattle.tables.specs.Tables.{entryWidth, kind, parent, object, live, isDir}
+use Rattle.sound_objects.specs.Rows.{Ends}
 use Rattle.sound_objects.specs.Objects.{bucketOf}
 use Rattle.sound_objects.proofs.Live.{first, first-kind, live-no, live-yes}
-use Rattle.sound_tree.specs.Tree.{rootSound, entrySound, liveSound, freeSound, parentIsDir, objectBelow, climbEnds, sameObject, linkSound, linksSound, entriesSound, entriesTest}
-use Rattle.sound_tree.specs.Fast.{rowSound, liveClimbEnds}
+use Rattle.sound_objects.proofs.Rows.{free-kind}
+use Rattle.sound_tree.specs.Tree.{rootSound, entrySound, liveSound, freeSound, parentIsDir, objectBelow, climbEnds, sameObject, linkSound, linksSound, entriesSound}
+use Rattle.sound_tree.specs.Fast.{rowSound, liveClimbEnds, ParentsLive, cellsAgree}
+use Rattle.sound_tree.proofs.Facts.{in-table}
+
+-- ---- a directory
+module _ (es : List ℕ) (e : ℕ) where
+  pub dir-past : length es ≡ entryWidth * maxEntries → maxEntries ≤ e → isDir es e ≡ false
+  unfolding isDir
+  dir-past w h = ap (λ (k : ℕ). eqb k directory) (sym (past es (entryWidth * e + 0) (omega arith)))
+
+  pub dir-cell : eqb (first es e) directory ≡ isDir es e
+  unfolding isDir
+  dir-cell = ap (λ (k : ℕ). eqb k directory) (first-kind es e)
 
 -- ---- an entry
 module _ (es : List ℕ) (next e : ℕ) where
@@ -26,6 +41,15 @@ module _ (es : List ℕ) (next e : ℕ) where
   pub row-live : {r : Bool} → (first es e ≡ 0 → ⊥) → r ≡ allOf (leb (first es e) lastKind ∷ parentIsDir es e ∷ objectBelow es next e ∷ []) → r ≡ rowSound es next e
   unfolding rowSound
   row-live h k = rw (live-yes es e h, ← first-kind es e) k
+
+  -- a row past the end
+  pub row-past : {end : ℕ} → Ends es end → end ≤ e → rowSound es next e ≡ true
+  unfolding rowSound freeSound
+  row-past E h = rw (free-kind es E e h)
+      (allOf-of
+      (eq-eqb (parent es e) 0 (E .1 .1 (entryWidth * e + 1) (omega arith))
+      also eq-eqb (object es e) 0 (E .1 .1 (entryWidth * e + 2) (omega arith))
+      also met))
 
   -- its row and its climb
   whole-entry : rowSound es next e ≡ true → liveClimbEnds es e ≡ true → entrySound es next e ≡ true
@@ -54,32 +78,37 @@ module _ (es : List ℕ) (e : ℕ) where
   unfolding liveClimbEnds
   climb-free h = rw (live-no es e h)
 
+  pub climb-past : {end : ℕ} → Ends es end → end ≤ e → liveClimbEnds es e ≡ true
+  unfolding liveClimbEnds
+  climb-past E h = rw (free-kind es E e h)
+
   pub climb-live : (first es e ≡ 0 → ⊥) → liveClimbEnds es e ≡ climbEnds es e
   unfolding liveClimbEnds
   climb-live h = rw (live-yes es e h)
 
+-- ---- kind k and object o against entry f, from the cells that the code reads
+module _ (es : List ℕ) (k o f : ℕ) where
+  pub cells-other : (o ≡ object es f → ⊥) → true ≡ cellsAgree k o (kind es f) (object es f)
+  unfolding cellsAgree
+  cells-other h = rw (ne-eqb o (object es f) h)
+
+  pub cells-same : {r : Bool} → o ≡ object es f → r ≡ allOf (eqb k (first es f) ∷ not (eqb k directory) ∷ []) → r ≡ cellsAgree k o (kind es f) (object es f)
+  unfolding cellsAgree
+  cells-same h q = rw (eq-eqb o (object es f) h, ← first-kind es f) q
+
 -- ---- two entries
 module _ (es : List ℕ) (e f : ℕ) where
-  pub link-none : sameObject es e f ≡ false → true ≡ linkSound es e f
+  link-none : sameObject es e f ≡ false → true ≡ linkSound es e f
   unfolding linkSound
   link-none h = rw h
 
-  pub link-other : (object es e ≡ object es f → ⊥) → true ≡ linkSound es e f
+  link-free : live es e ≡ false → true ≡ linkSound es e f
   unfolding sameObject
-  link-other h = link-none (rw (ne-eqb (object es e) (object es f) h) refl)
+  link-free l = link-none (split (eqb (object es e) (object es f)) (λ q. rw (q, l) refl) (λ q. rw q refl))
 
-  pub link-free : object es e ≡ object es f → first es e ≡ 0 → true ≡ linkSound es e f
-  unfolding sameObject
-  link-free s h = link-none (rw (eq-eqb (object es e) (object es f) s, live-no es e h) refl)
-
-  pub link-past : object es e ≡ object es f → (first es e ≡ 0 → ⊥) → first es f ≡ 0 → true ≡ linkSound es e f
-  unfolding sameObject
-  link-past s h k = link-none (rw (eq-eqb (object es e) (object es f) s, live-yes es e h, live-no es f k) refl)
-
-  pub link-both : {r : Bool} → object es e ≡ object es f → (first es e ≡ 0 → ⊥) → (first es f ≡ 0 → ⊥)
-      → r ≡ allOf (eqb (first es e) (first es f) ∷ not (eqb (first es e) directory) ∷ []) → r ≡ linkSound es e f
-  unfolding linkSound sameObject isDir
-  link-both s h k q = rw (eq-eqb (object es e) (object es f) s, live-yes es e h, live-yes es f k, ← first-kind es e, ← first-kind es f) q
+  pub link-live : {r : Bool} → (first es e ≡ 0 → ⊥) → live es f ≡ true → r ≡ cellsAgree (first es e) (object es e) (kind es f) (object es f) → r ≡ linkSound es e f
+  unfolding linkSound sameObject isDir cellsAgree
+  link-live h k q = q ∙ rw (first-kind es e) (split (eqb (object es e) (object es f)) (λ p. rw (p, live-yes es e h, k) refl) (λ p. rw p refl))
 
 -- ---- an entry against those before it
 module _ (es : List ℕ) (e : ℕ) where
@@ -106,7 +135,15 @@ module _ (es : List ℕ) (e : ℕ) where
   unfolding linksSound
   links-yes h = sym (all-of (linkSound es e) e (λ f k. not-false (linkSound es e f) (none-at unlike e f (sym h) k)))
 
+  pub links-free : live es e ≡ false → true ≡ linksSound es e
+  unfolding linksSound
+  links-free l = sym (all-of (linkSound es e) e (λ f k. sym (link-free es e f l)))
+
 -- ---- all of them
+-- a loop's end, where every number from the end on passes
+pub all-past : (p : ℕ → Bool) (n end i : ℕ) → end ≤ i → allBelow p i ≡ true → ((j : ℕ) → end ≤ j → p j ≡ true) → true ≡ allBelow p n
+all-past p n end i a h f = sym (all-of p n (λ j k. split (ltb j i) (λ q. all-at p i j h (ltb-true j i q)) (λ q. f j (let g = ltb-false j i q in omega arith))))
+
 module _ (es : List ℕ) (next : ℕ) where
   -- in the order in which the code tests them
   abbrev pub parts : List Bool
@@ -132,6 +169,14 @@ module _ (es : List ℕ) (next : ℕ) where
       also allOf-at _ 2 h
       also met))
 
-  pub table-test : {r : Bool} → length es ≡ entryWidth * maxEntries → r ≡ allOf parts → r ≡ entriesTest es next
-  unfolding entriesTest
-  table-test h k = rw (eq-eqb (length es) (entryWidth * maxEntries) h) (k ∙ parts-sound)
+  pub by-parts : {r : Bool} → r ≡ allOf parts → r ≡ entriesSound es next
+  by-parts k = k ∙ parts-sound
+
+  -- a live parent is a directory, and so is live and in the table
+  pub parents-live : length es ≡ entryWidth * maxEntries → allBelow (rowSound es next) maxEntries ≡ true → ParentsLive es
+  unfolding rowSound isDir
+  parents-live w h e l =
+      let r = cond-then (live es e) _ (freeSound es e) l (all-at (rowSound es next) maxEntries e h (in-table es w e l)) in
+      let d : kind es (parent es e) ≡ directory = eqb-true (kind es (parent es e)) directory (allOf-at _ 1 r) in
+      let k : live es (parent es e) ≡ true = live-yes es (parent es e) (λ z. let q = first-kind es (parent es e) in omega arith) in
+      (in-table es w (parent es e) k, k)

@@ -1,12 +1,14 @@
--- What the functions test in turn: an entry's row without its climb, then the climbs, with marks of the entries that are known to end.
+-- What the functions test in turn: an entry's row without its climb, then the climbs, with marks of the entries that are known to end, then links.
 use mathlib.Core.Path.{_≡_}
-use mathlib.Core.Bool.{Bool, true, cond}
+use mathlib.Core.Bool.{Bool, true, cond, not}
 use mathlib.Core.List.{List, [], _∷_}
 use Prim.Native.Nat.{ℕ, _<_}
+use lib.Dec.{eqb}
 use lib.ListN.{length, getD}
 use Rattle.laws.specs.Tests.{allOf}
+use Rattle.access.specs.Kinds.{directory}
 use Rattle.access.specs.Limits.{maxEntries}
-use Rattle.tables.specs.Tables.{live}
+use Rattle.tables.specs.Tables.{parent, live}
 use Rattle.sound_tree.specs.Tree.{reaches, kindInRange, parentIsDir, objectBelow, climbEnds, freeSound}
 
 unfoldable pub rowSound : List ℕ → ℕ → ℕ → Bool
@@ -15,6 +17,14 @@ rowSound es next e = cond (live es e) (allOf (kindInRange es e ∷ parentIsDir e
 unfoldable pub liveClimbEnds : List ℕ → ℕ → Bool
 liveClimbEnds es e = cond (live es e) (climbEnds es e) true
 
+-- the parents of live entries are live entries of the table
+abbrev pub ParentsLive : List ℕ → Type 0
+ParentsLive es = (e : ℕ) → live es e ≡ true → (parent es e < maxEntries) × (live es (parent es e) ≡ true)
+
 -- a marked entry comes to entry 0
 abbrev pub Known : List ℕ → List ℕ → Type 0
-Known es known = (length known ≡ maxEntries) × ((e : ℕ) → e < maxEntries → (getD known e 0 ≡ 0 → ⊥) → reaches es maxEntries e ≡ true)
+Known es marks = (length marks ≡ maxEntries) × ((e : ℕ) → e < maxEntries → (getD marks e 0 ≡ 0 → ⊥) → reaches es maxEntries e ≡ true)
+
+-- two live entries, by their kinds k and l and their objects o and p
+unfoldable pub cellsAgree : ℕ → ℕ → ℕ → ℕ → Bool
+cellsAgree k o l p = cond (eqb o p) (allOf (eqb k l ∷ not (eqb k directory) ∷ [])) true

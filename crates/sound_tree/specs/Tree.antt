@@ -1,13 +1,12 @@
 -- Document 01, "Tables are sound if": the clauses on entries.
-use mathlib.Core.Bool.{Bool, true, false, cond, not, _&&_}
+use mathlib.Core.Bool.{Bool, true, cond, not, _&&_}
 use mathlib.Core.List.{List, [], _∷_}
-use Prim.Native.Nat.{ℕ, zero, suc, _*_}
+use Prim.Native.Nat.{ℕ, zero, suc}
 use lib.Dec.{eqb, ltb, leb}
-use lib.ListN.{length}
 use Rattle.laws.specs.Tests.{allBelow, allOf}
 use Rattle.access.specs.Kinds.{directory, lastKind}
 use Rattle.access.specs.Limits.{maxEntries}
-use Rattle.tables.specs.Tables.{entryWidth, kind, parent, object, live, isDir}
+use Rattle.tables.specs.Tables.{kind, parent, object, live, isDir}
 
 -- "entry 0 is as above": a directory, object 0, its own parent
 unfoldable pub rootSound : List ℕ → Bool
@@ -59,7 +58,3 @@ linksSound es e = allBelow (linkSound es e) e
 unfoldable pub entriesSound : List ℕ → ℕ → Bool
 entriesSound es next =
     allOf (rootSound es ∷ allBelow (entrySound es next) maxEntries ∷ allBelow (linksSound es) maxEntries ∷ [])
-
--- what the code answers: the entries have their length, and are sound
-unfoldable pub entriesTest : List ℕ → ℕ → Bool
-entriesTest es next = cond (eqb (length es) (entryWidth * maxEntries)) (entriesSound es next) false

@@ -9,6 +9,7 @@ use Rattle.laws.proofs.Tests.{any-start, any-more, any-done, any-found}
 use Rattle.access.specs.Limits.{maxRulesets}
 use Rattle.tables.specs.Layers.{isOpen}
 use Rattle.sound.specs.Sound.{anyOpen}
+use Rattle.sound.proofs.Parts.{open-cells}
 use Rattle.sound.proofs.any_open.Statement.{statement}
 use Rattle.sound.proofs.any_open.Tie as tie
 
@@ -24,9 +25,22 @@ any-open-spec =
     tie.close
     (tie.spec Inv-loop μ-loop
     (λ c. (omega arith, any-start _))
+    (λ c. search needs)
+    (λ c. search needs)
+    (λ c. search needs)
+    (λ c. search needs)
+    (λ c. search needs)
+    (λ c. search needs)
+    (λ c. search needs)
+    (λ c. search needs)
+    (λ c. search needs)
     (λ c κs. tt)
-    (λ c. any-found _ _ (c .before .before .before .loop .r) (omega arith) (sym (c .before .ruleset-open .ensures) ∙ c .if1 .taken))
+    (λ c.
+    let l = c .before .before .before .before .before .before in
+    any-found _ _ (l .loop .r) (omega arith) (sym (open-cells (l .before .before .args .rulesets .now) (l .loop .r) (c .before .handles-any .ensures)) ∙ c .if1 .taken))
     (λ c. search needs)
     (λ c. search needs)
-    (λ c. (omega arith, any-more _ _ (c .before .before .before .loop .inv .1) (sym (c .before .ruleset-open .ensures) ∙ c .if1 .left)))
+    (λ c.
+    let l = c .before .before .before .before .before .before in
+    (omega arith, any-more _ _ (l .loop .inv .1) (sym (open-cells (l .before .before .args .rulesets .now) (l .loop .r) (c .before .handles-any .ensures)) ∙ c .if1 .left)))
     (λ c. any-done _ _ (c .before .loop .r) (omega arith) (omega arith) (c .before .loop .inv .1)))

@@ -1,8 +1,7 @@
 -- Assumes nothing.
-use Rattle.laws.proofs.Conditions.{all-is, conditions}
-use Rattle.laws.proofs.Readings.{readings}
-use mathlib.Core.Path.{sym, _∙_}
+use borrow.Author.Needs.{needs}
 use borrow.Author.Tests.{eq-eqb, ne-eqb}
+use Rattle.laws.proofs.Conditions.{all-is, conditions}
 use Rattle.sound.specs.Sound.{levelZeroSound}
 use Rattle.sound.proofs.level_zero_sound.Statement.{statement}
 use Rattle.sound.proofs.level_zero_sound.Tie as tie
@@ -12,9 +11,9 @@ unfolding levelZeroSound
 level-zero-sound-spec =
     tie.close
     (tie.spec
-    (λ c κs. tt)
-    (λ c. rw (ne-eqb _ 0 (λ e. c .if1 .taken (c .before .level-of .ensures ∙ e))))
-    (λ c κs. tt)
-    (λ c. rw (eq-eqb _ 0 (sym (c .before .before .before .level-of .ensures) ∙ c .before .before .if1 .left)) (all-is (search (readings, conditions) depth 16)))
-    (λ c κs. tt)
-    (λ c. rw (eq-eqb _ 0 (sym (c .before .before .before .before .level-of .ensures) ∙ c .before .before .before .if1 .left)) (all-is (search (readings, conditions) depth 16))))
+    (λ c. search needs)
+    (λ c. rw (ne-eqb _ 0 (c .if1 .taken)))
+    (λ c. search needs)
+    (λ c. rw (eq-eqb _ 0 (c .before .before .if1 .left)) (all-is (search conditions depth 16)))
+    (λ c κs. search needs)
+    (λ c. rw (eq-eqb _ 0 (c .before .before .before .if1 .left)) (all-is (search conditions depth 16))))

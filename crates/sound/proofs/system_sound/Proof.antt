@@ -1,6 +1,6 @@
 -- Assumes nothing.
+use borrow.Author.Needs.{needs}
 use Rattle.laws.proofs.Conditions.{all-is, conditions}
-use Rattle.laws.proofs.Readings.{readings}
 use Rattle.sound.specs.Sound.{systemSound}
 use Rattle.sound.proofs.system_sound.Statement.{statement}
 use Rattle.sound.proofs.system_sound.Tie as tie
@@ -10,9 +10,9 @@ unfolding systemSound
 system-sound-spec =
     tie.close
     (tie.spec
-    (λ c κs. tt)
-    (λ c. all-is (search (readings, conditions) depth 16))
-    (λ c κs. tt)
-    (λ c. all-is (search (readings, conditions) depth 16))
-    (λ c. all-is (search (readings, conditions) depth 16))
-    (λ c. all-is (search (readings, conditions) depth 16)))
+    (λ c. search needs)
+    (λ c. all-is (search conditions depth 16))
+    (λ c. search needs)
+    (λ c. all-is (search conditions depth 16))
+    (λ c. all-is (search conditions depth 16))
+    (λ c. all-is (search conditions depth 16)))

@@ -1,10 +1,9 @@
 -- The invariant: the rest of the chain decides. Assumes nothing.
-use mathlib.Core.Path.{_≡_, refl, sym, ap, _∙_}
-use Prim.Native.Nat.{_-_}
+use mathlib.Core.Path.{_≡_, refl, sym, _∙_}
 use native.Mathlib.Omega.{arith}
 use Rattle.access.specs.Limits.{maxDomain}
 use Rattle.sound_domains.specs.Domains.{chainEnds}
-use Rattle.sound_domains.proofs.Chains.{chain-end, chain-none, chain-up}
+use Rattle.sound_domains.proofs.Chains.{chain-end, chain-none, chain-past, chain-cell}
 use Rattle.sound_domains.proofs.chain_ends.Statement.{statement}
 use Rattle.sound_domains.proofs.chain_ends.Tie as tie
 
@@ -19,16 +18,15 @@ chain-ends-spec =
     tie.close
     (tie.spec Inv-loop μ-loop
     (λ c. refl)
-    (λ c. let l = c .before .before .loop in let a = c .before .before .before .before .args in sym (l .inv ∙ chain-end (a .layers .now) (l .n) (l .at) (c .if1 .taken)))
-    (λ c. omega arith)
-    (λ c κs. tt)
-    (λ c. omega arith)
-    (λ c. omega arith)
+    (λ c. let l = c .before .before .loop in sym (l .inv ∙ chain-end _ (l .n) (l .at) (c .if1 .taken)))
     (λ c.
     let b = c .before .before .before in
-    let a = b .before .before .args in
-    b .loop .inv ∙ chain-up (a .layers .now) (b .loop .n) (b .loop .at) (c .before .if1 .left) (omega arith) ∙ ap (chainEnds (a .layers .now) (b .loop .n - 1)) (sym (c .row-read .ensures)))
-    (λ c.
-    let l = c .before .loop in
-    let a = c .before .before .before .args in
-    sym (l .inv ∙ chain-none (a .layers .now) (l .n) (l .at) (omega arith))))
+    sym (b .loop .inv ∙ chain-past _ (b .loop .n) (b .loop .at) (b .before .pre) (c .if2 .taken) (omega arith)))
+    (λ c. omega arith)
+    (λ c. omega arith)
+    (λ c. omega arith)
+    (λ c. omega arith)
+    (λ c. omega arith)
+    (λ c. omega arith)
+    (λ c. let b = c .before .before in let l = b .before .before .loop in l .inv ∙ chain-cell _ (l .n) (l .at) (b .if1 .left) (omega arith))
+    (λ c. let l = c .before .loop in sym (l .inv ∙ chain-none _ (l .n) (l .at) (omega arith))))

@@ -3,6 +3,7 @@ use mathlib.Core.Path.{_≡_, sym, _∙_}
 use mathlib.Core.Bool.{true}
 use Prim.Native.Nat.{_≤_, _-_}
 use native.Mathlib.Omega.{arith}
+use borrow.Author.Needs.{needs}
 use Rattle.laws.specs.Tests.{allBelow}
 use Rattle.laws.proofs.Tests.{all-none, all-more, all-done, all-fails}
 use Rattle.access.specs.Limits.{maxThreads}
@@ -22,7 +23,7 @@ threads-sound-spec =
     tie.close
     (tie.spec Inv-loop μ-loop
     (λ c. (omega arith, all-none _))
-    (λ c κs. tt)
+    (λ c κs. search needs)
     (λ c. omega arith)
     (λ c. omega arith)
     (λ c. (omega arith, all-more _ _ (c .before .before .before .loop .inv .1) (sym (c .before .thread-sound .ensures) ∙ c .if1 .taken)))

@@ -7,19 +7,19 @@ use native.Mathlib.Omega.{arith}
 use borrow.Author.Needs.{needs}
 use borrow.Author.Tests.{not-true, not-false}
 use Rattle.laws.specs.Tests.{allBelow}
-use Rattle.laws.proofs.Tests.{all-none, all-more, all-done, all-fails}
-use Rattle.access.specs.Limits.{maxEntries}
+use Rattle.laws.proofs.Tests.{all-none, all-more, all-fails}
+use Rattle.sound_objects.proofs.Live.{live-yes}
 use Rattle.sound_tree.specs.Fast.{liveClimbEnds, Known}
-use Rattle.sound_tree.proofs.Rows.{climb-free, climb-live}
+use Rattle.sound_tree.proofs.Rows.{all-past, climb-free, climb-live, climb-past}
 use Rattle.sound_tree.proofs.Marks.{known-none, known-same}
 use Rattle.sound_tree.proofs.climbs_end.Statement.{statement}
 use Rattle.sound_tree.proofs.climbs_end.Tie as tie
 
 abbrev Inv-loop : tie.InvT-loop
-Inv-loop entries known₀ e₀ known e = (e ≤ maxEntries) × (Known entries known × (allBelow (liveClimbEnds entries) e ≡ true))
+Inv-loop entries end marks₀ e₀ marks e = (e ≤ end) × (Known entries marks × (allBelow (liveClimbEnds entries) e ≡ true))
 
 abbrev μ-loop : tie.MeasureT-loop
-μ-loop entries known₀ e₀ known e = maxEntries - e
+μ-loop entries end marks₀ e₀ marks e = end - e
 
 pub climbs-end-spec : {M : Type 1} → statement M
 climbs-end-spec =
@@ -30,24 +30,28 @@ climbs-end-spec =
     (λ c. search needs)
     (λ c. search needs)
     (λ c. sym (c .before .before .before .before .loop .inv .1 .0 .0))
-    (λ c κs. let l = c .before .before .before .before in (l .before .before .pre, (omega arith, l .loop .inv .1 .0)))
-    (λ c.
-    let k = c .before in
-    let b = k .before .before in
-    all-fails _ _ (b .before .before .before .loop .e) (omega arith) (climb-live _ _ (b .if1 .taken) ∙ sym (k .reaches-root .ensures) ∙ not-true _ (c .if2 .taken)))
-    (λ c. sym (c .before .before .before .before .before .before .before .loop .inv .1 .0 .0))
     (λ c κs.
+    let b = c .before in
+    let l = b .before .before .before in
+    let p = l .before .before .pre in
+    (p .0 .0, ((omega arith, live-yes _ _ (b .if1 .taken)), (p .1, l .loop .inv .1 .0))))
+    (λ c.
     let k = c .before .before in
-    let l = k .before .before .before .before .before in
-    (l .before .before .pre, (sym (k .reaches-root .ensures) ∙ not-false _ (c .before .if2 .left), l .loop .inv .1 .0)))
+    let b = k .before .before in
+    all-fails _ _ (b .before .before .before .loop .e) (omega arith) (climb-live _ _ (b .if1 .taken) ∙ sym (k .climb-ends .ensures .0) ∙ not-true _ (c .if2 .taken)))
     (λ c. search needs)
     (λ c. omega arith)
     (λ c.
     let l = c .before .before .before .loop in (
       omega arith,
       ⊎-elim
-          (λ w. (known-same _ (w .5 .last .1 .0) (w .5 .ensures) (w .7), all-more _ _ (l .inv .1 .1) (climb-live _ _ (w .0 .taken) ∙ sym (w .2 .ensures) ∙ not-false _ (w .3 .left))))
-          (λ w. (known-same _ (l .known) (l .inv .1 .0) (w .1), all-more _ _ (l .inv .1 .1) (climb-free _ _ (w .0 .left))))
+          (λ w.
+          let r = not-false _ (w .4 .left) in
+          (known-same _ (w .2 .last .1 .0) (w .2 .ensures .1 r) (w .5), all-more _ _ (l .inv .1 .1) (climb-live _ _ (w .0 .taken) ∙ sym (w .2 .ensures .0) ∙ r)))
+          (λ w. (known-same _ (l .marks) (l .inv .1 .0) (w .1), all-more _ _ (l .inv .1 .1) (climb-free _ _ (w .0 .left))))
           (c .if1 .came),
     ))
-    (λ c. all-done _ _ (c .before .loop .e) (omega arith) (omega arith) (c .before .loop .inv .1 .1)))
+    (λ c.
+    let l = c .before .loop in
+    let s = c .before .before .before in
+    all-past _ _ (s .args .end) (l .e) (omega arith) (l .inv .1 .1) (λ j k. climb-past _ j (s .pre .0) k)))

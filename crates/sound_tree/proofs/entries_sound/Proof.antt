@@ -1,7 +1,9 @@
 -- Assumes nothing.
+use mathlib.Core.Path.{sym, _∙_}
 use borrow.Author.Needs.{needs}
+use borrow.Author.Tests.{not-false}
 use Rattle.laws.proofs.Conditions.{all-is, conditions}
-use Rattle.sound_tree.proofs.Rows.{table-test}
+use Rattle.sound_tree.proofs.Rows.{by-parts, parents-live}
 use Rattle.sound_tree.proofs.entries_sound.Statement.{statement}
 use Rattle.sound_tree.proofs.entries_sound.Tie as tie
 
@@ -10,10 +12,13 @@ entries-sound-spec =
     tie.close
     (tie.spec
     (λ c κs. search needs)
-    (λ c. table-test _ _ (c .before .before .before .before .pre .0) (all-is (search conditions depth 16)))
+    (λ c. by-parts _ _ (all-is (search conditions depth 16)))
     (λ c κs. search needs)
-    (λ c. table-test _ _ (c .before .before .before .before .before .before .pre .0) (all-is (search conditions depth 16)))
+    (λ c. by-parts _ _ (all-is (search conditions depth 16)))
+    (λ c κs.
+    let k = c .before in
+    let p = c .before .before .before .before .before .before .pre .0 in
+    (p, parents-live _ _ (p .0) (sym (k .rows-sound .ensures) ∙ not-false _ (c .if2 .left))))
+    (λ c. by-parts _ _ (all-is (search conditions depth 16)))
     (λ c κs. search needs)
-    (λ c. table-test _ _ (c .before .before .before .before .before .before .before .before .pre .0) (all-is (search conditions depth 16)))
-    (λ c κs. search needs)
-    (λ c. table-test _ _ (c .before .before .before .before .before .before .before .before .before .pre .0) (all-is (search conditions depth 16))))
+    (λ c. by-parts _ _ (all-is (search conditions depth 16))))

@@ -1,7 +1,7 @@
 -- Assumes nothing.
 use borrow.Author.Needs.{needs}
 use Rattle.laws.proofs.Conditions.{all-is, conditions}
-use Rattle.sound_tree.proofs.Rows.{link-other, link-free, link-past, link-both}
+use Rattle.sound_tree.proofs.Rows.{cells-other, cells-same}
 use Rattle.sound_tree.proofs.link_sound.Statement.{statement}
 use Rattle.sound_tree.proofs.link_sound.Tie as tie
 
@@ -13,22 +13,9 @@ link-sound-spec =
     (λ c. search needs)
     (λ c. search needs)
     (λ c. search needs)
+    (λ c. let a = c .before .before .args in cells-other (a .entries .now) (a .k) (a .o) (a .f) (c .if1 .taken))
     (λ c. search needs)
     (λ c. search needs)
     (λ c. search needs)
-    (λ c. search needs)
-    (λ c. link-other _ _ _ (c .if1 .taken))
-    (λ c. search needs)
-    (λ c. search needs)
-    (λ c. search needs)
-    (λ c. search needs)
-    (λ c. search needs)
-    (λ c. search needs)
-    (λ c. link-free _ _ _ (c .before .before .before .if1 .left) (c .if2 .taken))
-    (λ c. link-past _ _ _ (c .before .before .before .before .if1 .left) (c .before .if2 .left) (c .if3 .taken))
-    (λ c.
-    let k = c .before .before in
-    link-both _ _ _ (k .before .before .before .if1 .left) (k .if2 .left) (c .before .if3 .left) (all-is (search conditions depth 16)))
-    (λ c.
-    let k = c .before .before in
-    link-both _ _ _ (k .before .before .before .if1 .left) (k .if2 .left) (c .before .if3 .left) (all-is (search conditions depth 16))))
+    (λ c. let a = c .before .before .before .before .args in cells-same (a .entries .now) (a .k) (a .o) (a .f) (c .before .before .if1 .left) (all-is (search conditions depth 16)))
+    (λ c. let a = c .before .before .before .before .args in cells-same (a .entries .now) (a .k) (a .o) (a .f) (c .before .before .if1 .left) (all-is (search conditions depth 16))))

@@ -1,13 +1,15 @@
-//! Near-linear: entries in buckets by object, marks along climbs, flags for keys and pool places.
+//! Near-linear: entries in buckets by object, marks along climbs, bit maps for keys and pool places.
 
 use super::Method;
 use crate::landlock::DIRECTORY;
 use crate::tables::{ENTRIES, ENTRY_WIDTH, LAYER_WIDTH, POOL, RULE_WIDTH};
 
 const BUCKETS: usize = 1024;
-const KEY_FLAGS: usize = 256;
-/// Cells joined at a time when looking for one that isn't zero.
+const KEY_FLAGS: usize = 1024;
+/// Cells joined at a time when looking for one that isn't zero, and rows of entries.
 const BLOCK: usize = 8;
+/// Flags in a word of a bit map.
+const WORD: usize = u64::BITS as usize;
 
 pub struct Buckets<'a> {
     entries: &'a [u64],
@@ -18,14 +20,20 @@ pub struct Buckets<'a> {
 }
 
 impl<'a> Method<'a> for Buckets<'a> {
-    fn new(entries: &'a [u64]) -> Option<Buckets<'a>> {
+    fn new(entries: &'a [u64], end: usize) -> Option<Buckets<'a>> {
         let mut buckets = Buckets {
             entries,
             heads: [0; BUCKETS],
             links: [0; ENTRIES],
         };
-        let sound = climbs_end(entries) && (0..ENTRIES).all(|entry| buckets.add(entry));
+        let sound = climbs_end(entries, end) && (0..end).all(|entry| buckets.add(entry));
         sound.then_some(buckets)
+    }
+
+    fn rows_used(entries: &[u64]) -> usize {
+        let mut blocks = entries.chunks_exact(ENTRY_WIDTH * BLOCK);
+        let used = blocks.rposition(|block| !Self::all_zero(block));
+        used.map_or(0, |block| BLOCK * (block + 1))
     }
 
     fn is_file_object(&self, object: u64) -> bool {
@@ -37,24 +45,22 @@ impl<'a> Method<'a> for Buckets<'a> {
     }
 
     fn keys_distinct(rules: &[u64]) -> bool {
-        let mut flags = [false; KEY_FLAGS];
+        let mut seen = [0u64; KEY_FLAGS / WORD];
         let mut each = rules.chunks_exact(RULE_WIDTH).enumerate();
         each.all(|(number, rule)| {
-            let seen = std::mem::replace(&mut flags[rule[1] as usize % KEY_FLAGS], true);
+            let flag = rule[1] as usize % KEY_FLAGS;
+            let (word, bit) = (&mut seen[flag / WORD], 1 << (flag % WORD));
+            let new = *word & bit == 0;
+            *word |= bit;
             let mut before = rules.chunks_exact(RULE_WIDTH).take(number);
-            !seen || before.all(|other| other[1] != rule[1] || other[0] != rule[0])
+            new || before.all(|other| other[1] != rule[1] || other[0] != rule[0])
         })
     }
 
     fn runs_apart(layers: &[u64]) -> bool {
-        let mut taken = [false; POOL];
+        let mut taken = [0u64; POOL / WORD];
         let mut rows = layers.chunks_exact(LAYER_WIDTH);
-        rows.all(|row| {
-            let run = &mut taken[row[4] as usize..][..row[5] as usize];
-            let free = run.iter().all(|place| !place);
-            run.fill(true);
-            free
-        })
+        rows.all(|row| take_run(&mut taken, row[4] as usize, row[5] as usize))
     }
 
     fn all_zero(cells: &[u64]) -> bool {
@@ -91,29 +97,44 @@ impl Buckets<'_> {
     }
 }
 
-/// Whether climbing from every live entry comes to entry 0.
-fn climbs_end(entries: &[u64]) -> bool {
-    let mut known = [false; ENTRIES];
-    known[0] = true;
-    (0..ENTRIES).all(|entry| entries[ENTRY_WIDTH * entry] == 0 || climb(entries, entry, &mut known))
-}
-
-/// Climbs to the first entry known to reach entry 0, then marks the way; answers whether there is one.
-fn climb(entries: &[u64], entry: usize, known: &mut [bool; ENTRIES]) -> bool {
-    let above = |at: usize| entries[ENTRY_WIDTH * at + 1] as usize;
-    let mut at = entry;
-    let mut steps = 0;
-    while !known[at] {
-        if steps == ENTRIES {
-            return false;
-        }
-        at = above(at);
-        steps += 1;
+/// Sets the flags of a run of at most as many places as a word has, if all are clear: in one word or two.
+fn take_run(taken: &mut [u64], first: usize, count: usize) -> bool {
+    if count == 0 {
+        return true;
     }
-    at = entry;
-    while !known[at] {
-        known[at] = true;
-        at = above(at);
+    let (word, at) = (first / WORD, first % WORD);
+    let run = u64::MAX >> (WORD - count);
+    let (low, high) = (
+        run << at,
+        if at + count > WORD {
+            run >> (WORD - at)
+        } else {
+            0
+        },
+    );
+    if taken[word] & low != 0 || (high != 0 && taken[word + 1] & high != 0) {
+        return false;
+    }
+    taken[word] |= low;
+    if high != 0 {
+        taken[word + 1] |= high;
     }
     true
+}
+
+/// Whether climbing from every live entry, all of them before the end, comes to entry 0.
+fn climbs_end(entries: &[u64], end: usize) -> bool {
+    let mut marks = [0; ENTRIES];
+    (0..end).all(|entry| entries[ENTRY_WIDTH * entry] == 0 || climb(entries, entry, &mut marks))
+}
+
+/// Climbs to entry 0 or to one with an older climb's mark, marking the way; answers whether there is one.
+fn climb(entries: &[u64], entry: usize, marks: &mut [u16; ENTRIES]) -> bool {
+    let own = entry as u16 + 1;
+    let mut at = entry;
+    while at != 0 && marks[at] == 0 {
+        marks[at] = own;
+        at = entries[ENTRY_WIDTH * at + 1] as usize;
+    }
+    at == 0 || marks[at] != own
 }

@@ -18,9 +18,9 @@ use skeinrabbit_sys::SIZES;
 
 /// A way to test what takes long.
 pub trait Method<'a>: Sized {
-    /// Reads entries whose rows are sound each by itself. None if a climb doesn't end at entry 0, or if two entries of one
+    /// Reads entries whose rows are sound each by itself, and free from `end` on. None if a climb doesn't end at entry 0, or if two entries of one
     /// object differ in kind or are directories.
-    fn new(entries: &'a [u64]) -> Option<Self>;
+    fn new(entries: &'a [u64], end: usize) -> Option<Self>;
 
     /// Whether some live entry other than a directory has the object.
     fn is_file_object(&self, object: u64) -> bool;
@@ -32,6 +32,9 @@ pub trait Method<'a>: Sized {
     fn runs_apart(layers: &[u64]) -> bool;
 
     fn all_zero(cells: &[u64]) -> bool;
+
+    /// The rows of entries after which all are free, or more.
+    fn rows_used(entries: &[u64]) -> usize;
 }
 
 /// Whether the tables are sound, for tables of any length and contents. That there is no ruleset and no layer at level 0
@@ -41,8 +44,13 @@ pub fn is_sound<'a, M: Method<'a>>(tables: &'a Tables) -> bool {
     lengths_right
         && system_sound(&tables.system)
         && threads_sound(tables)
-        && entries_sound(&tables.entries, tables.system[1])
-        && M::new(&tables.entries).is_some_and(|method| {
+        && entries_and_rules_sound::<M>(tables)
+}
+
+fn entries_and_rules_sound<'a, M: Method<'a>>(tables: &'a Tables) -> bool {
+    let end = M::rows_used(&tables.entries);
+    entries_sound(&tables.entries, end, tables.system[1])
+        && M::new(&tables.entries, end).is_some_and(|method| {
             let rules = RuleTest::new(tables, method);
             rules.rulesets_sound(&tables.rulesets) && rules.layers_sound(tables)
         })
@@ -84,9 +92,10 @@ fn chain_ends(layers: &[u64], youngest: u64) -> bool {
 }
 
 /// Whether entry 0 is the root and every row is sound by itself.
-fn entries_sound(entries: &[u64], next_object: u64) -> bool {
+fn entries_sound(entries: &[u64], end: usize, next_object: u64) -> bool {
+    let rows = entries.chunks_exact(ENTRY_WIDTH);
     entries[..ENTRY_WIDTH] == [DIRECTORY, 0, 0]
-        && entries.chunks_exact(ENTRY_WIDTH).all(|row| {
+        && rows.take(end).all(|row| {
             let (kind, parent, object) = (row[0], row[1], row[2]);
             if kind == 0 {
                 return parent | object == 0;

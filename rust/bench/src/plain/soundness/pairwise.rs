@@ -9,7 +9,7 @@ pub struct Pairwise<'a> {
 }
 
 impl<'a> Method<'a> for Pairwise<'a> {
-    fn new(entries: &'a [u64]) -> Option<Pairwise<'a>> {
+    fn new(entries: &'a [u64], _: usize) -> Option<Pairwise<'a>> {
         let climbs_end = (0..ENTRIES).all(|entry| reaches_root(entries, entry));
         let sound = climbs_end && (0..ENTRIES).all(|entry| links_sound(entries, entry));
         sound.then_some(Pairwise { entries })
@@ -38,6 +38,10 @@ impl<'a> Method<'a> for Pairwise<'a> {
 
     fn all_zero(cells: &[u64]) -> bool {
         cells.iter().all(|cell| *cell == 0)
+    }
+
+    fn rows_used(_: &[u64]) -> usize {
+        ENTRIES
     }
 }
 
