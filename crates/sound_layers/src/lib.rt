@@ -3,6 +3,7 @@ use access::limits::MAX_LAYERS;
 use access::limits::MAX_POOL;
 use access::limits::MAX_RULES;
 use access::rights::Rights;
+use bitmap::take_run;
 use sound_rules::masks_known;
 use sound_rules::rules_sound;
 use sound_zero::all_zero;
@@ -12,15 +13,14 @@ use tables::rows::POOL_CELLS;
 use tables::rows::RULE_WIDTH;
 use tables::rows::handles_any;
 ghost use mathlib.Core.Path.{_≡_};
-ghost use mathlib.Core.Bool.{true};
-ghost use Prim.Native.Nat.{_+_, _*_, _<_, _≤_};
+ghost use Prim.Native.Nat.{_*_, _<_, _≤_};
 ghost use lib.ListN.{length};
 ghost use Rattle.laws.specs.Tests.{allBelow};
 ghost use Rattle.access.specs.Limits.{maxEntries, maxLayers, maxPool};
 ghost use Rattle.tables.specs.Tables.{entryWidth, layerWidth, ruleWidth};
 ghost use Rattle.sound_objects.specs.Objects.{Indexed};
 ghost use Rattle.sound_layers.specs.Layers.{runPlaced, layerSound, runSound, restZero, layersSound};
-ghost use Rattle.sound_layers.specs.Runs.{RunsPlaced, runClear, withRun};
+ghost use Rattle.sound_layers.specs.Runs.{RunsPlaced};
 
 // The run of a layer, by its first rule and its number of rules.
 fn run_placed(first: u64, count: u64, taken: u64) -> bool
@@ -104,29 +104,13 @@ fn each_sound(
     true
 }
 
-// Sets the flags of a run's places, if each is clear.
-fn take_run(taken: &mut [u8], first: usize, count: usize) -> bool
-    requires { ⌜ first + count ≤ length (now taken) ⌝ }
-    ensures { λ r. ⌜ (r ≡ runClear (now (taken .entry)) first count) × (r ≡ true → now (taken .exit) ≡ withRun (now (taken .entry)) first count) ⌝ }
-{
-    let mut k = 0;
-    while k < count {
-        if taken[first + k] != 0 {
-            return false;
-        }
-        taken[first + k] = 1;
-        k += 1;
-    }
-    true
-}
-
 // The runs of the layers in use are apart: no place of the pool is taken twice.
 fn runs_sound(layers: &[u64], used: u64) -> bool
     requires { ⌜ (length (now layers) ≡ layerWidth * maxLayers) × ((used ≤ maxLayers) × RunsPlaced (now layers) used) ⌝ }
     ensures { λ r. ⌜ r ≡ allBelow (runSound (now (layers .entry))) used ⌝ }
 {
     let n = used as usize;
-    let mut taken = [0u8; 1024];
+    let mut taken = [0u64; 16];
     let mut l = 0;
     while l < n {
         let at = LAYER_WIDTH * l;

@@ -1,6 +1,14 @@
 -- A flag for each fold of a rule's key.
+use mathlib.Core.Bool.{Bool, _&&_}
+use mathlib.Core.List.{List}
 use Prim.Native.Nat.{ℕ, _%_}
+use lib.Dec.{eqb}
+use Rattle.tables.specs.Tables.{ruleType, ruleKey}
 
 -- the flag of a key; the laws hold for any fold
 unfoldable pub flagOf : ℕ → ℕ
-flagOf key = key % 256
+flagOf key = key % 1024
+
+-- rule j has the type and the key
+abbrev pub keyIs : List ℕ → ℕ → ℕ → ℕ → Bool
+keyIs rules j ty key = eqb key (ruleKey rules j) && eqb ty (ruleType rules j)

@@ -1,6 +1,8 @@
 // The soundness test of rules, the same for rulesets and layers.
 use access::limits::MAX_PORT;
 use access::rights::Rights;
+use bitmap::is_set;
+use bitmap::set_flag;
 use sound_objects::bucket_of;
 use tables::rows::DIRECTORY;
 use tables::rows::PATH_RULE;
@@ -11,10 +13,10 @@ ghost use Prim.Native.Nat.{_*_, _<_};
 ghost use lib.ListN.{length};
 ghost use Rattle.laws.specs.Tests.{allBelow};
 ghost use Rattle.access.specs.Limits.{maxEntries};
-ghost use Rattle.tables.specs.Tables.{entryWidth};
+ghost use Rattle.tables.specs.Tables.{entryWidth, ruleType, ruleKey};
 ghost use Rattle.sound_objects.specs.Objects.{Indexed};
-ghost use Rattle.sound_rules.specs.Flags.{flagOf};
-ghost use Rattle.sound_rules.specs.Rules.{isFileOf, fileObject, rightsFit, pathSound, portSound, cellsSound, ruleSound, sameKey, newKey, ruleCount, rulesSound, masksKnown};
+ghost use Rattle.sound_rules.specs.Flags.{flagOf, keyIs};
+ghost use Rattle.sound_rules.specs.Rules.{isFileOf, fileObject, rightsFit, pathSound, portSound, cellsSound, ruleSound, newKey, ruleCount, rulesSound, masksKnown};
 
 // Entry `e` is live, no directory, and of the object.
 fn is_file_of(entries: &[u64], object: u64, e: usize) -> bool
@@ -166,23 +168,25 @@ fn each_sound(
     true
 }
 
-fn same_key(rules: &[u64], i: usize, j: usize) -> bool
-    requires { ⌜ (i < ruleCount (now rules)) × (j < ruleCount (now rules)) ⌝ }
-    ensures { λ r. ⌜ r ≡ sameKey (now (rules .entry)) i j ⌝ }
+// Rule `j` has the type and the key.
+fn same_key(rules: &[u64], j: usize, ty: u64, key: u64) -> bool
+    requires { ⌜ j < ruleCount (now rules) ⌝ }
+    ensures { λ r. ⌜ r ≡ keyIs (now (rules .entry)) j ty key ⌝ }
 {
-    if rules[3 * i + 1] != rules[3 * j + 1] {
+    if key != rules[3 * j + 1] {
         return false;
     }
-    rules[3 * i] == rules[3 * j]
+    ty == rules[3 * j]
 }
 
-fn new_key(rules: &[u64], i: usize) -> bool
-    requires { ⌜ i < ruleCount (now rules) ⌝ }
+// No rule before rule `i` has its type and its key.
+fn new_key(rules: &[u64], i: usize, ty: u64, key: u64) -> bool
+    requires { ⌜ (i < ruleCount (now rules)) × ((ty ≡ ruleType (now rules) i) × (key ≡ ruleKey (now rules) i)) ⌝ }
     ensures { λ r. ⌜ r ≡ newKey (now (rules .entry)) i ⌝ }
 {
     let mut j = 0;
     while j < i {
-        if same_key(rules, i, j) {
+        if same_key(rules, j, ty, key) {
             return false;
         }
         j += 1;
@@ -193,7 +197,7 @@ fn new_key(rules: &[u64], i: usize) -> bool
 fn flag_of(key: u64) -> usize
     ensures { λ r. ⌜ r ≡ flagOf key ⌝ }
 {
-    (key % 256) as usize
+    (key % 1024) as usize
 }
 
 // A clear flag tells that the key is new; where it is set, the rules before decide.
@@ -201,16 +205,18 @@ fn keys_new(rules: &[u64]) -> bool
     ensures { λ r. ⌜ r ≡ allBelow (newKey (now (rules .entry))) (ruleCount (now (rules .entry))) ⌝ }
 {
     let n = rules.len() / RULE_WIDTH;
-    let mut seen = [0u8; 256];
+    let mut seen = [0u64; 16];
     let mut i = 0;
     while i < n {
-        let b = flag_of(rules[3 * i + 1]);
-        if seen[b] != 0 {
-            if !new_key(rules, i) {
+        let key = rules[3 * i + 1];
+        let b = flag_of(key);
+        if is_set(&seen, b) {
+            if !new_key(rules, i, rules[3 * i], key) {
                 return false;
             }
+        } else {
+            set_flag(&mut seen, b);
         }
-        seen[b] = 1;
         i += 1;
     }
     true

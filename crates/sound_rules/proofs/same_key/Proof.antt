@@ -4,19 +4,13 @@ use native.Mathlib.Nat.{add-zero}
 use borrow.Author.Needs.{needs}
 use borrow.Author.Tests.{eq-eqb, ne-eqb}
 use Rattle.tables.specs.Tables.{ruleWidth}
-use Rattle.sound_rules.specs.Rules.{sameKey}
 use Rattle.sound_rules.proofs.same_key.Statement.{statement}
 use Rattle.sound_rules.proofs.same_key.Tie as tie
 
 pub same-key-spec : {M : Type 1} → statement M
-unfolding sameKey
 same-key-spec =
     tie.close
     (tie.spec
-    (λ c. search needs)
-    (λ c. search needs)
-    (λ c. search needs)
-    (λ c. search needs)
     (λ c. search needs)
     (λ c. search needs)
     (λ c. search needs)
@@ -25,10 +19,4 @@ same-key-spec =
     (λ c. search needs)
     (λ c. search needs)
     (λ c. search needs)
-    (λ c. search needs)
-    (λ c. search needs)
-    (λ c. search needs)
-    (λ c.
-    let d = c .before .before in
-    let a = d .before .before .before .args in
-    rw (eq-eqb _ _ (d .if1 .left), add-zero (ruleWidth * a .i), add-zero (ruleWidth * a .j))))
+    (λ c. let d = c .before in rw (eq-eqb _ _ (d .if1 .left), add-zero (ruleWidth * d .before .before .args .j))))

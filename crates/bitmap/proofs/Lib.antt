@@ -1,0 +1,3 @@
+-- The laws of flags in words.
+pub mod Masks
+pub mod Flags

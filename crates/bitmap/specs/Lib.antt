@@ -1,0 +1,2 @@
+-- Flags in words of 64.
+pub mod Bitmap
