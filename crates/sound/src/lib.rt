@@ -5,7 +5,6 @@ use access::limits::MAX_RULESETS;
 use access::rights::Rights;
 use sound_domains::threads_sound;
 use sound_layers::layers_sound;
-use sound_objects::index_objects;
 use sound_objects::rows_used;
 use sound_rulesets::rulesets_sound;
 use sound_tree::entries_sound;
@@ -17,8 +16,6 @@ ghost use mathlib.Core.Bool.{true};
 ghost use Prim.Native.Nat.{_*_};
 ghost use lib.ListN.{length};
 ghost use Rattle.access.specs.Limits.{maxRulesets};
-ghost use Rattle.sound_objects.specs.Rows.{Ends};
-ghost use Rattle.sound_objects.specs.Objects.{Indexed};
 ghost use Rattle.tables.specs.Tables.{systemWidth, rulesetWidth, tables, before, lengthsRight};
 ghost use Rattle.sound.specs.Sound.{systemSound, anyOpen, levelZeroSound, partsSound, sound};
 
@@ -69,19 +66,16 @@ fn level_zero_sound(system: &[u64], rulesets: &[u64]) -> bool
     !any_open(rulesets)
 }
 
-// Every part passes its test; the rows of entries from `end` on are free, `heads` and `links` are the index of objects.
+// Every part passes its test.
 fn parts_sound(
     system: &[u64],
     entries: &[u64],
-    end: usize,
-    heads: &[u64],
-    links: &[u64],
     rulesets: &[u64],
     layers: &[u64],
     pool: &[u64],
     threads: &[u64],
 ) -> bool
-    requires { ⌜ (lengthsRight (tables (now system) (now entries) (now rulesets) (now layers) (now pool) (now threads)) ≡ true) × (Ends (now entries) end × Indexed (now entries) (now heads) (now links)) ⌝ }
+    requires { ⌜ lengthsRight (tables (now system) (now entries) (now rulesets) (now layers) (now pool) (now threads)) ≡ true ⌝ }
     ensures { λ r. ⌜ r ≡ partsSound (before system entries rulesets layers pool threads) ⌝ }
 {
     let level = system[0];
@@ -96,16 +90,19 @@ fn parts_sound(
     if !threads_sound(layers, threads, used) {
         return false;
     }
-    if !entries_sound(entries, end, links, next) {
+    let end = rows_used(entries);
+    let mut heads = [0u64; 1024];
+    let mut links = [0u64; 1024];
+    if !entries_sound(entries, end, next, &mut heads, &mut links) {
         return false;
     }
-    if !rulesets_sound(entries, heads, links, next, level, rulesets) {
+    if !rulesets_sound(entries, &heads, &links, next, level, rulesets) {
         return false;
     }
     layers_sound(
         entries,
-        heads,
-        links,
+        &heads,
+        &links,
         next,
         level,
         layers,
@@ -129,19 +126,5 @@ pub fn is_sound(
     if !lengths_right(system, entries, rulesets, layers, pool, threads) {
         return false;
     }
-    let end = rows_used(entries);
-    let mut heads = [0u64; 1024];
-    let mut links = [0u64; 1024];
-    index_objects(entries, end, &mut heads, &mut links);
-    parts_sound(
-        system,
-        entries,
-        end,
-        &heads,
-        &links,
-        rulesets,
-        layers,
-        pool,
-        threads,
-    )
+    parts_sound(system, entries, rulesets, layers, pool, threads)
 }

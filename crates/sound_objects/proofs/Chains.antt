@@ -3,6 +3,7 @@ use mathlib.Core.Path.{_≡_, refl, sym, ap, _∙_}
 use mathlib.Core.Bool.{Bool, true, false}
 use mathlib.Core.List.{List}
 use Prim.Native.Nat.{ℕ, zero, suc, _-_, _≤_, _<_}
+use native.Mathlib.Nat.{le-refl}
 use native.Mathlib.Omega.{arith}
 use lib.Dec.{eqb}
 use lib.ListN.{getD}
@@ -10,7 +11,6 @@ use borrow.Author.Tests.{eq-eqb, eqb-true}
 use Rattle.laws.specs.Tests.{anyBelow}
 use Rattle.laws.proofs.Bools.{split, clash, both, and-l, and-r, or-left, or-right, nor}
 use Rattle.laws.proofs.Tests.{any-start}
-use Rattle.access.specs.Limits.{maxEntries}
 use Rattle.tables.specs.Tables.{object, live}
 use Rattle.sound_objects.specs.Objects.{bucketOf, latest, Linked}
 use Rattle.sound_objects.proofs.Index.{inBucket, latest-here, latest-past}
@@ -68,45 +68,45 @@ module _ (es : List ℕ) (b : ℕ) (q : ℕ → Bool) (only : (f : ℕ) → q f 
   pub chain-miss : (e f : ℕ) → latest es b e ≡ suc f → q f ≡ false → anyBelow q e ≡ anyBelow q f
   chain-miss e f h k = chain-some e f h ∙ skip f k
 
--- ---- a walk: `at` is where it stands, an entry's number + 1 or 0, and `whole` what it is to answer
-pub record Walk (es : List ℕ) (b : ℕ) (q : ℕ → Bool) (whole : Bool) (at : ℕ) : Type 0 where
+-- ---- a walk among the entries below n: `at` is where it stands, an entry's number + 1 or 0, and `whole` what it is to answer
+pub record Walk (es : List ℕ) (b : ℕ) (q : ℕ → Bool) (whole : Bool) (n at : ℕ) : Type 0 where
   pub e : ℕ
-  pub le : e ≤ maxEntries
+  pub le : e ≤ n
   pub eq : at ≡ latest es b e
   pub rest : whole ≡ anyBelow q e
 
-pub walk-start : (es : List ℕ) (b : ℕ) (q : ℕ → Bool) (e at : ℕ) → e ≤ maxEntries → at ≡ latest es b e → Walk es b q (anyBelow q e) at
-walk-start es b q e at l h = record { e = e; le = l; eq = h; rest = refl }
+pub walk-start : (es : List ℕ) (b : ℕ) (q : ℕ → Bool) (n at : ℕ) → at ≡ latest es b n → Walk es b q (anyBelow q n) n at
+walk-start es b q n at h = record { e = n; le = le-refl n; eq = h; rest = refl }
 
-module _ {es : List ℕ} {b : ℕ} {q : ℕ → Bool} {whole : Bool} {at : ℕ} (w : Walk es b q whole at) where
+module _ {es : List ℕ} {b : ℕ} {q : ℕ → Bool} {whole : Bool} {n at : ℕ} (w : Walk es b q whole n at) where
   before : (at ≡ 0 → ⊥) → latest es b (w .e) ≡ suc (at - 1)
-  before n = let h = w .eq in omega arith
+  before d = let h = w .eq in omega arith
 
   -- the entry where it stands
-  pub walk-live : (at ≡ 0 → ⊥) → (at - 1 < maxEntries) × (live es (at - 1) ≡ true) × (bucketOf (object es (at - 1)) ≡ b)
-  walk-live n = let s = latest-is es b (w .e) (at - 1) (before n) in ((let l = w .le in let k = s .0 in omega arith), s .1, s .2)
+  pub walk-live : (at ≡ 0 → ⊥) → (at - 1 < n) × (live es (at - 1) ≡ true) × (bucketOf (object es (at - 1)) ≡ b)
+  walk-live d = let s = latest-is es b (w .e) (at - 1) (before d) in ((let l = w .le in let k = s .0 in omega arith), s .1, s .2)
 
-  pub walk-in : (at ≡ 0 → ⊥) → at - 1 < maxEntries
-  walk-in n = walk-live n .0
+  pub walk-in : (at ≡ 0 → ⊥) → at - 1 < n
+  walk-in d = walk-live d .0
 
   -- what stands at its link
-  pub walk-link : (links : List ℕ) → Linked es links maxEntries → (at ≡ 0 → ⊥) → getD links (at - 1) 0 ≡ latest es b (at - 1)
-  walk-link links L n = let s = walk-live n in L (at - 1) (s .0) (s .1) ∙ ap (λ (o : ℕ). latest es o (at - 1)) (s .2)
+  pub walk-link : (links : List ℕ) → Linked es links n → (at ≡ 0 → ⊥) → getD links (at - 1) 0 ≡ latest es b (at - 1)
+  walk-link links L d = let s = walk-live d in L (at - 1) (s .0) (s .1) ∙ ap (λ (o : ℕ). latest es o (at - 1)) (s .2)
 
   -- each step goes down
-  pub walk-less : (links : List ℕ) → Linked es links maxEntries → (at ≡ 0 → ⊥) → getD links (at - 1) 0 < at
-  walk-less links L n = let h = walk-link links L n in let k = latest-below es b (at - 1) in omega arith
+  pub walk-less : (links : List ℕ) → Linked es links n → (at ≡ 0 → ⊥) → getD links (at - 1) 0 < at
+  walk-less links L d = let h = walk-link links L d in let k = latest-below es b (at - 1) in omega arith
 
   module _ (only : (f : ℕ) → q f ≡ true → (live es f ≡ true) × (bucketOf (object es f) ≡ b)) where
     pub walk-hit : (at ≡ 0 → ⊥) → q (at - 1) ≡ true → true ≡ whole
-    walk-hit n h = sym (w .rest ∙ chain-hit es b q only (w .e) (at - 1) (before n) h)
+    walk-hit d h = sym (w .rest ∙ chain-hit es b q only (w .e) (at - 1) (before d) h)
 
-    pub walk-miss : (links : List ℕ) → Linked es links maxEntries → (at ≡ 0 → ⊥) → q (at - 1) ≡ false → Walk es b q whole (getD links (at - 1) 0)
-    walk-miss links L n h = record {
+    pub walk-miss : (links : List ℕ) → Linked es links n → (at ≡ 0 → ⊥) → q (at - 1) ≡ false → Walk es b q whole n (getD links (at - 1) 0)
+    walk-miss links L d h = record {
       e = at - 1;
-      le = (let k = walk-in n in omega arith);
-      eq = walk-link links L n;
-      rest = w .rest ∙ chain-miss es b q only (w .e) (at - 1) (before n) h;
+      le = (let k = walk-in d in omega arith);
+      eq = walk-link links L d;
+      rest = w .rest ∙ chain-miss es b q only (w .e) (at - 1) (before d) h;
     }
 
     pub walk-end : at ≡ 0 → false ≡ whole

@@ -15,7 +15,7 @@ use Rattle.laws.proofs.Cells.{getD-zeros}
 use Rattle.access.specs.Limits.{maxEntries}
 use Rattle.tables.specs.Tables.{object, live}
 use Rattle.sound_objects.specs.Rows.{Ends}
-use Rattle.sound_objects.specs.Objects.{buckets, bucketOf, latest, Headed, Linked, Indexed}
+use Rattle.sound_objects.specs.Objects.{buckets, bucketOf, latest, Headed, Linked, IndexedBelow, Indexed}
 use Rattle.sound_objects.proofs.Rows.{free-kind}
 
 pub bucket-below : (o : ℕ) → bucketOf o < buckets
@@ -28,10 +28,6 @@ bucket-in o h = let k = bucket-below o in omega arith
 
 pub length-zeros : (heads : List ℕ) → heads ≡ replicate buckets 0 → length heads ≡ buckets
 length-zeros heads h = ap length h ∙ length-replicate {A = ℕ} buckets 0
-
--- the index of the entries below e
-abbrev pub Upto : List ℕ → List ℕ → List ℕ → ℕ → Type 0
-Upto es heads links e = (length heads ≡ buckets) × ((length links ≡ maxEntries) × (Headed es heads e × Linked es links e))
 
 module _ (es : List ℕ) where
   -- entry e is in bucket b
@@ -61,7 +57,7 @@ module _ (es : List ℕ) where
   unfolding latest
   headed-none heads h b k = ap (λ (l : List ℕ). getD l b 0) h ∙ getD-zeros buckets b
 
-  pub index-none : (heads links : List ℕ) → heads ≡ replicate buckets 0 → length links ≡ maxEntries → Upto es heads links 0
+  pub index-none : (heads links : List ℕ) → heads ≡ replicate buckets 0 → length links ≡ maxEntries → IndexedBelow es heads links 0
   index-none heads links h w = (length-zeros heads h, (w, (headed-none heads h, λ e k l. absurd (not-suc-le-zero k))))
 
   module _ (heads : List ℕ) (e : ℕ) (H : Headed es heads e) where
@@ -96,10 +92,10 @@ module _ (es : List ℕ) where
         (λ q. let d : (f ≡ e → ⊥) = eqb-false f e q in L f (omega arith) l)
 
   -- a turn of the loop
-  module _ (heads links : List ℕ) (e : ℕ) (u : Upto es heads links e) where
+  module _ (heads links : List ℕ) (e : ℕ) (u : IndexedBelow es heads links e) where
     -- by the bucket b that it found
     pub index-live : {b : ℕ} {next more : List ℕ} → e < maxEntries → b ≡ bucketOf (object es e) → live es e ≡ true
-        → next ≡ set heads b (e + 1) → more ≡ set links e (getD heads b 0) → Upto es next more (e + 1)
+        → next ≡ set heads b (e + 1) → more ≡ set links e (getD heads b 0) → IndexedBelow es next more (e + 1)
     index-live {b} k q l h m =
         let w = u .1 .0 in
         rw (h, m, q) (
@@ -110,7 +106,7 @@ module _ (es : List ℕ) where
           ),
         )
 
-    pub index-free : {next more : List ℕ} → live es e ≡ false → next ≡ heads → more ≡ links → Upto es next more (e + 1)
+    pub index-free : {next more : List ℕ} → live es e ≡ false → next ≡ heads → more ≡ links → IndexedBelow es next more (e + 1)
     index-free l h m = rw (h, m) (u .0, (u .1 .0, (headed-free heads e (u .1 .1 .0) l, linked-free heads e (u .1 .1 .0) links l (u .1 .1 .1))))
 
   -- the rows from `end` on add nothing
@@ -118,10 +114,10 @@ module _ (es : List ℕ) where
   latest-rest b end zero E = ap (latest es b) (add-zero end)
   latest-rest b end (suc n) E = ap (latest es b) (add-suc end n) ∙ latest-past b (end + n) (rw (free-kind es E (end + n) (omega arith)) refl) ∙ latest-rest b end n E
 
-  pub index-done : (heads links : List ℕ) (end e : ℕ) → Ends es end → e ≤ end → end ≤ e → Upto es heads links e → Indexed es heads links
+  pub index-done : (heads links : List ℕ) (end e : ℕ) → Ends es end → e ≤ end → end ≤ e → IndexedBelow es heads links e → Indexed es heads links
   index-done heads links end e E a k u =
       let z : e ≡ end = omega arith in
-      let v : Upto es heads links end = rw z at u in
+      let v : IndexedBelow es heads links end = rw z at u in
       let m : end + (maxEntries - end) ≡ maxEntries = (let w = E .1 .0 in omega arith) in (
         v .0,
         (

@@ -28,5 +28,9 @@ Headed es heads n = (b : ℕ) → b < buckets → getD heads b 0 ≡ latest es b
 abbrev pub Linked : List ℕ → List ℕ → ℕ → Type 0
 Linked es links n = (e : ℕ) → e < n → live es e ≡ true → getD links e 0 ≡ latest es (bucketOf (object es e)) e
 
+-- the index of the entries below n
+abbrev pub IndexedBelow : List ℕ → List ℕ → List ℕ → ℕ → Type 0
+IndexedBelow es heads links n = (length heads ≡ buckets) × ((length links ≡ maxEntries) × (Headed es heads n × Linked es links n))
+
 abbrev pub Indexed : List ℕ → List ℕ → List ℕ → Type 0
-Indexed es heads links = (length heads ≡ buckets) × ((length links ≡ maxEntries) × (Headed es heads maxEntries × Linked es links maxEntries))
+Indexed es heads links = IndexedBelow es heads links maxEntries

@@ -1,15 +1,16 @@
 // The soundness test of the entries, whose rows from `end` on are free.
 use access::limits::MAX_ENTRIES;
+use sound_objects::bucket_of;
 use tables::rows::DIRECTORY;
 ghost use mathlib.Core.Path.{_≡_};
 ghost use mathlib.Core.Bool.{true};
-ghost use Prim.Native.Nat.{_*_, _<_};
-ghost use lib.ListN.{length};
+ghost use Prim.Native.Nat.{_+_, _*_, _<_};
+ghost use lib.ListN.{length, replicate};
 ghost use Rattle.laws.specs.Tests.{allBelow};
 ghost use Rattle.access.specs.Limits.{maxEntries};
 ghost use Rattle.tables.specs.Tables.{entryWidth, kind, object, live};
 ghost use Rattle.sound_objects.specs.Rows.{Ends};
-ghost use Rattle.sound_objects.specs.Objects.{Linked};
+ghost use Rattle.sound_objects.specs.Objects.{buckets, IndexedBelow, Indexed};
 ghost use Rattle.sound_tree.specs.Tree.{rootSound, reaches, linksSound, entriesSound};
 ghost use Rattle.sound_tree.specs.Fast.{rowSound, liveClimbEnds, ParentsLive, Known, cellsAgree};
 
@@ -124,17 +125,19 @@ fn link_sound(entries: &[u64], k: u64, o: u64, f: usize) -> bool
     k != DIRECTORY
 }
 
-// Entry `e` against every entry before it in its object's bucket.
-fn links_sound(entries: &[u64], links: &[u64], e: usize) -> bool
-    requires { ⌜ (length (now entries) ≡ entryWidth * maxEntries) × ((length (now links) ≡ maxEntries) × (Linked (now entries) (now links) maxEntries × (e < maxEntries))) ⌝ }
-    ensures { λ r. ⌜ r ≡ linksSound (now (entries .entry)) e ⌝ }
+// Adds entry `e` to the index of objects if it is live; it agrees with every entry before it in its object's bucket.
+fn add_entry(entries: &[u64], heads: &mut [u64], links: &mut [u64], e: usize) -> bool
+    requires { ⌜ ((length (now entries) ≡ entryWidth * maxEntries) × (e < maxEntries)) × IndexedBelow (now entries) (now heads) (now links) e ⌝ }
+    ensures { λ r. ⌜ (r ≡ linksSound (now (entries .entry)) e) × (r ≡ true → IndexedBelow (now (entries .entry)) (now (heads .exit)) (now (links .exit)) (e + 1)) ⌝ }
 {
     let kind = entries[3 * e];
     if kind == 0 {
         return true;
     }
     let object = entries[3 * e + 2];
-    let mut at = links[e];
+    let b = bucket_of(object);
+    let head = heads[b];
+    let mut at = head;
     while at != 0 {
         let f = (at - 1) as usize;
         if !link_sound(entries, kind, object, f) {
@@ -142,28 +145,36 @@ fn links_sound(entries: &[u64], links: &[u64], e: usize) -> bool
         }
         at = links[f];
     }
+    links[e] = head;
+    heads[b] = e as u64 + 1;
     true
 }
 
-fn objects_sound(entries: &[u64], end: usize, links: &[u64]) -> bool
-    requires { ⌜ Ends (now entries) end × ((length (now links) ≡ maxEntries) × Linked (now entries) (now links) maxEntries) ⌝ }
-    ensures { λ r. ⌜ r ≡ allBelow (linksSound (now (entries .entry))) maxEntries ⌝ }
+// Entries of one object agree. Fills the index of objects, which starts as zeros.
+fn objects_sound(entries: &[u64], end: usize, heads: &mut [u64], links: &mut [u64]) -> bool
+    requires { ⌜ Ends (now entries) end × ((now heads ≡ replicate buckets 0) × (length (now links) ≡ maxEntries)) ⌝ }
+    ensures { λ r. ⌜ (r ≡ allBelow (linksSound (now (entries .entry))) maxEntries) × (r ≡ true → Indexed (now (entries .entry)) (now (heads .exit)) (now (links .exit))) ⌝ }
 {
     let mut e = 0;
     while e < end {
-        if links_sound(entries, links, e) {
-            e += 1;
-        } else {
+        if !add_entry(entries, heads, links, e) {
             return false;
         }
+        e += 1;
     }
     true
 }
 
-// The entries are sound; `next` is the counter of object numbers, `links` those of the index of objects.
-pub fn entries_sound(entries: &[u64], end: usize, links: &[u64], next: u64) -> bool
-    requires { ⌜ Ends (now entries) end × ((length (now links) ≡ maxEntries) × Linked (now entries) (now links) maxEntries) ⌝ }
-    ensures { λ r. ⌜ r ≡ entriesSound (now (entries .entry)) next ⌝ }
+// The entries are sound; `next` is the counter of object numbers. Fills the index of objects, which starts as zeros.
+pub fn entries_sound(
+    entries: &[u64],
+    end: usize,
+    next: u64,
+    heads: &mut [u64],
+    links: &mut [u64],
+) -> bool
+    requires { ⌜ Ends (now entries) end × ((now heads ≡ replicate buckets 0) × (length (now links) ≡ maxEntries)) ⌝ }
+    ensures { λ r. ⌜ (r ≡ entriesSound (now (entries .entry)) next) × (r ≡ true → Indexed (now (entries .entry)) (now (heads .exit)) (now (links .exit))) ⌝ }
 {
     if !root_sound(entries) {
         return false;
@@ -174,5 +185,5 @@ pub fn entries_sound(entries: &[u64], end: usize, links: &[u64], next: u64) -> b
     if !climbs_end(entries, end) {
         return false;
     }
-    objects_sound(entries, end, links)
+    objects_sound(entries, end, heads, links)
 }

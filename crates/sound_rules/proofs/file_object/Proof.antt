@@ -2,15 +2,15 @@
 use mathlib.Core.Path.{_≡_, sym, ap, _∙_}
 use mathlib.Core.Bool.{true}
 use mathlib.Core.List.{List}
-use Prim.Native.Nat.{ℕ, _<_}
+use Prim.Native.Nat.{ℕ}
 use native.Mathlib.Omega.{arith}
 use borrow.Author.Needs.{needs}
 use lib.ListN.{getD}
 use Rattle.laws.specs.Tests.{anyBelow}
 use Rattle.access.specs.Limits.{maxEntries}
 use Rattle.tables.specs.Tables.{object, live}
-use Rattle.sound_objects.specs.Objects.{buckets, bucketOf}
-use Rattle.sound_objects.proofs.Index.{bucket-below}
+use Rattle.sound_objects.specs.Objects.{bucketOf}
+use Rattle.sound_objects.proofs.Index.{bucket-below, bucket-in}
 use Rattle.sound_objects.proofs.Chains.{Walk, walk-start, walk-in, walk-less, walk-hit, walk-miss, walk-end}
 use Rattle.sound_rules.specs.Rules.{isFileOf, fileObject}
 use Rattle.sound_rules.proofs.Facts.{file-object, file-live}
@@ -22,20 +22,16 @@ only : (es : List ℕ) (o f : ℕ) → isFileOf es o f ≡ true → (live es f �
 only es o f h = (file-live es o f h, ap bucketOf (file-object es o f h))
 
 abbrev Inv-loop : tie.InvT-loop
-Inv-loop entries heads links o at₀ at = Walk entries (bucketOf o) (isFileOf entries o) (anyBelow (isFileOf entries o) maxEntries) at
+Inv-loop entries heads links o at₀ at = Walk entries (bucketOf o) (isFileOf entries o) (anyBelow (isFileOf entries o) maxEntries) maxEntries at
 
 abbrev μ-loop : tie.MeasureT-loop
 μ-loop entries heads links o at₀ at = at
-
--- the bucket is one of the heads
-head-in : (o b : ℕ) → b ≡ bucketOf o → b < buckets
-head-in o b e = let h = bucket-below o in omega arith
 
 holds : tie.Need-loop-holds Inv-loop μ-loop
 holds c =
     let s = c .before .before .before .before .before in
     let b = c .before .bucket-of in
-    walk-start _ _ _ maxEntries _ (omega arith)
+    walk-start _ _ _ maxEntries _
     (ap (λ (n : ℕ). getD (s .args .heads .now) n 0) (b .ensures) ∙ s .pre .1 .1 .1 .0 (bucketOf (s .args .object)) (bucket-below (s .args .object)))
 
 pub file-object-spec : {M : Type 1} → statement M
@@ -44,8 +40,8 @@ file-object-spec =
     tie.close
     (tie.spec Inv-loop μ-loop
     (λ c κs. tt)
-    (λ c. let s = c .before .before .before .before in let h = head-in (s .args .object) (c .bucket-of .result) (c .bucket-of .ensures) in omega arith)
-    (λ c. let s = c .before .before .before .before .before in let h = head-in (s .args .object) (c .before .bucket-of .result) (c .before .bucket-of .ensures) in omega (arith, s .pre .1 .0))
+    (λ c. let h = bucket-in _ (c .bucket-of .ensures) in omega arith)
+    (λ c. let s = c .before .before .before .before .before in let h = bucket-in _ (c .before .bucket-of .ensures) in omega (arith, s .pre .1 .0))
     holds
     (λ c. omega arith)
     (λ c κs. (c .before .before .before .before .before .before .before .pre .0, walk-in (c .before .loop .inv) (c .loop-test .taken)))
