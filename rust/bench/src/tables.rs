@@ -75,6 +75,12 @@ impl Tables {
         ]
     }
 
+    /// The sum of all cells: what it takes to read each once.
+    pub fn sum(&self) -> u64 {
+        let sum = |cells: &Vec<u64>| cells.iter().copied().fold(0, u64::wrapping_add);
+        self.all().map(sum).into_iter().fold(0, u64::wrapping_add)
+    }
+
     pub fn all_mut(&mut self) -> [&mut Vec<u64>; 6] {
         [
             &mut self.system,

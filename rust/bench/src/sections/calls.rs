@@ -1,10 +1,10 @@
 //! Whole calls: a soundness test, the refusals, the change.
 
-use super::policies;
 use super::verdicts::access_request;
+use super::{policies, sound_tables};
 use crate::inputs::{Questions, Random};
 use crate::landlock::{DIRECTORY, REGULAR};
-use crate::measure::{against, differ, line, table, time, Effort, Side};
+use crate::measure::{against, differ, duration, line, table, time, Effort, Side};
 use crate::plain::broker::Broker;
 use crate::plain::soundness::{is_sound, Buckets, Pairwise};
 use crate::plain::verdict::rename_verdict;
@@ -24,12 +24,16 @@ pub fn run(effort: Effort) {
         "ratio",
         "plain broker, fast test",
         "ratio",
+        "sum of all cells",
     ]);
-    let policies = policies();
-    for (name, tables) in &policies {
+    let access = |(name, tables): &(&str, Tables)| {
         let script = Script::access(tables);
         compare(effort, &format!("access, {name}"), tables, &script);
-    }
+    };
+    sound_tables().iter().for_each(access);
+    let policies = policies();
+    // The others are among the tables above.
+    policies[1..4].iter().for_each(access);
     for (name, tables) in &policies {
         let script = Script::rename(tables);
         compare(effort, &format!("rename, {name}"), tables, &script);
@@ -180,8 +184,11 @@ fn compare(effort: Effort, name: &str, tables: &Tables, script: &Script) {
         move |i: u64| script.call(program, &mut tables, i)
     });
     let [core, pairwise, fast] = sides.each_mut().map(|side| side as &mut dyn Side);
-    let times = time(effort, TIMED, &mut [core, pairwise, fast]);
-    line(name, &against(times[0], &times[1..]));
+    let mut sum = |_: u64| tables.sum();
+    let times = time(effort, TIMED, &mut [core, pairwise, fast, &mut sum]);
+    let mut cells = against(times[0], &times[1..3]);
+    cells.push(duration(times[3]));
+    line(name, &cells);
 }
 
 /// The answers to the first calls, and the tables they leave.

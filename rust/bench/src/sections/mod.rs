@@ -44,3 +44,18 @@ fn policies() -> [(&'static str, Tables); 5] {
         ("1,023 deep, 1 layer", inputs::chain()),
     ]
 }
+
+/// The tables that the soundness test is measured on, alone and in a whole access call.
+fn sound_tables() -> [(&'static str, Tables); 5] {
+    let crowded = inputs::crowded();
+    [
+        ("4 entries, no layer", inputs::fresh()),
+        ("1,000 entries, 41 layers of 4 to 36 rules", crowded.clone()),
+        (
+            "the same, objects all in one bucket",
+            inputs::one_bucket(crowded),
+        ),
+        ("1,023 deep, 1 layer", inputs::chain()),
+        ("every table full", inputs::full()),
+    ]
+}

@@ -1,20 +1,15 @@
 //! The soundness test alone.
 
+use super::sound_tables;
 use crate::core;
 use crate::damage::{at_limits, damaged};
-use crate::inputs::{chain, crowded, fresh, full, one_bucket, Random};
+use crate::inputs::Random;
 use crate::measure::{against, differ, duration, line, table, time, Effort};
 use crate::plain::soundness::{is_sound, Buckets, Pairwise};
 use crate::tables::Tables;
 
 pub fn run(effort: Effort) {
-    let inputs = [
-        ("4 entries, no layer", fresh()),
-        ("1,000 entries, 41 layers of 4 to 36 rules", crowded()),
-        ("the same, objects all in one bucket", one_bucket(crowded())),
-        ("1,023 deep, 1 layer", chain()),
-        ("every table full", full()),
-    ];
+    let inputs = sound_tables();
     let mut random = Random::new(41);
     let mut tally = Tally::default();
     for (name, tables) in &inputs {
@@ -71,15 +66,6 @@ fn compare_damaged(
     }
 }
 
-fn sum(tables: &Tables) -> u64 {
-    let sums = tables.all().map(|table| table.iter().fold(0, add));
-    sums.iter().fold(0, add)
-}
-
-fn add(sum: u64, cell: &u64) -> u64 {
-    sum.wrapping_add(*cell)
-}
-
 fn measure(effort: Effort, name: &str, tables: &Tables) {
     let times = time(
         effort,
@@ -88,7 +74,7 @@ fn measure(effort: Effort, name: &str, tables: &Tables) {
             &mut |_: u64| core::is_sound(tables).into(),
             &mut |_: u64| is_sound::<Pairwise>(tables).into(),
             &mut |_: u64| is_sound::<Buckets>(tables).into(),
-            &mut |_: u64| sum(tables),
+            &mut |_: u64| tables.sum(),
         ],
     );
     let mut cells = against(times[0], &times[1..3]);
