@@ -1,13 +1,14 @@
 -- The marks of the entries that are known to come to entry 0. Assumes nothing.
 use mathlib.Core.Path.{_≡_, refl, sym, ap, _∙_}
-use mathlib.Core.Bool.{Bool, true}
+use mathlib.Core.Bool.{Bool, true, false, not}
 use mathlib.Core.List.{List}
 use mathlib.Core.Logic.{_⊎_, inl, inr}
-use Prim.Native.Nat.{ℕ, _-_, _*_, _<_}
+use Prim.Native.Nat.{ℕ, zero, suc, _+_, _-_, _*_, _≤_, _<_}
+use native.Mathlib.Numerals.{sub-one}
 use lib.Dec.{eqb}
 use lib.ListN.{length, getD, set, replicate, length-set, length-replicate}
 use lib.Seq.{getD-set-same, getD-set-other}
-use borrow.Author.Tests.{eqb-true, eqb-false}
+use borrow.Author.Tests.{eqb-true, eqb-false, ne-eqb}
 use native.Mathlib.Omega.{arith}
 use Rattle.laws.proofs.Bools.{split, either, agree}
 use Rattle.laws.proofs.Cells.{getD-zeros}
@@ -19,11 +20,19 @@ use Rattle.sound_tree.proofs.Climb.{reaches-root, reaches-none, reaches
 use Rattle.sound_tree.proofs.Reach.{reaches-on, reaches-back}
 
 -- no entry is marked at first
-pub known-none : (es : List ℕ) → Known es (replicate maxEntries 0)
-known-none es = (length-replicate {A = ℕ} maxEntries 0, λ e l d. absurd (d (getD-zeros maxEntries e)))
+pub known-none : (es : List ℕ) → Known es (replicate maxEntries 0) 0
+known-none es = (
+  length-replicate {A = ℕ} maxEntries 0,
+  (λ e. let z = getD-zeros maxEntries e in omega arith, λ e d. absurd (d (getD-zeros maxEntries e))),
+)
 
-pub known-same : (es marks : List ℕ) {next : List ℕ} → Known es marks → next ≡ marks → Known es next
-known-same es marks K h = rw h K
+module _ (es marks : List ℕ) {n : ℕ} (K : Known es marks n) where
+  pub known-same : {next : List ℕ} → next ≡ marks → Known es next n
+  known-same h = rw h K
+
+  -- an entry from which nothing climbs
+  pub known-past : {next : List ℕ} → next ≡ marks → Known es next (n + 1)
+  known-past h = rw h (K .0, (λ e. let l = K .1 .0 e in omega arith, K .1 .1))
 
 module _ (es : List ℕ) (e : ℕ) where
   -- ---- a climb from e that has come to `at`, with n steps left
@@ -44,30 +53,82 @@ module _ (es : List ℕ) (e : ℕ) where
     pub rest-end : n ≡ 0 → eqb at 0 ≡ reaches es maxEntries e
     rest-end z = sym (r .0 ∙ reaches-none es n at z)
 
-  -- ---- an entry marked by this climb comes to entry 0 if e does, one marked by another does
-  abbrev pub Marking : ℕ → List ℕ → Type 0
-  Marking own marks =
-      (length marks ≡ maxEntries)
-      × ((f : ℕ) → f < maxEntries → (getD marks f 0 ≡ 0 → ⊥)
-      → (reaches es maxEntries f ≡ true) ⊎ ((getD marks f 0 ≡ own) × (reaches es maxEntries e ≡ reaches es maxEntries f)))
+-- ---- the marks of a climb from e that has come to `at`
+pub record Marking (es : List ℕ) (e own at : ℕ) (marks : List ℕ) : Type 0 where
+  pub long : length marks ≡ maxEntries
+  pub bound : (f : ℕ) → getD marks f 0 ≤ own
+  -- an entry with an older mark comes to entry 0
+  pub older : (f : ℕ) → (getD marks f 0 ≡ 0 → ⊥) → (getD marks f 0 ≡ own → ⊥) → reaches es maxEntries f ≡ true
+  -- one with the climb's mark does so exactly if e does
+  pub same : (f : ℕ) → getD marks f 0 ≡ own → reaches es maxEntries e ≡ reaches es maxEntries f
+  -- and stands below another, or below `at`
+  pub up : (f : ℕ) → getD marks f 0 ≡ own → (f ≡ 0 → ⊥) × ((getD marks (parent es f) 0 ≡ own) ⊎ (parent es f ≡ at))
 
-  module _ (own : ℕ) (marks : List ℕ) where
-    pub marking-none : Known es marks → Marking own marks
-    marking-none K = (K .0, λ f l d. inl (K .1 f l d))
+module _ (es : List ℕ) (e : ℕ) (marks : List ℕ) where
+  pub marking-none : Known es marks e → Marking es e (e + 1) e marks
+  marking-none K = record {
+    long = K .0;
+    bound = λ f. let l = K .1 .0 f in omega arith;
+    older = λ f d o. K .1 .1 f d;
+    same = λ f o. let l = K .1 .0 f in absurd (omega arith);
+    up = λ f o. let l = K .1 .0 f in absurd (omega arith);
+  }
 
-    module _ (M : Marking own marks) where
-      pub marking-more : {next : List ℕ} (at : ℕ) → at < maxEntries → reaches es maxEntries e ≡ reaches es maxEntries at → next ≡ set marks at own → Marking own next
-      marking-more at l h q = rw q (
-        length-set marks at own ∙ M .0,
-        λ f k d. split (eqb f at)
-            (λ p. let w = M .0 in
-            rw (eqb-true f at p) (inr (getD-set-same marks at own 0 (omega arith), h)))
-            (λ p. let o = getD-set-other marks at f own 0 (eqb-false f at p) in rw o (M .1 f k (rw o at d))),
-      )
+  module _ (at : ℕ) (M : Marking es e (e + 1) at marks) where
+    -- a step up
+    module _ (l : at < maxEntries) (d : at ≡ 0 → ⊥) (h : reaches es maxEntries e ≡ reaches es maxEntries at) where
+      abbrev next : List ℕ
+      next = set marks at (e + 1)
 
-      -- another climb's mark
-      pub marking-other : (at : ℕ) → at < maxEntries → (getD marks at 0 ≡ 0 → ⊥) → (getD marks at 0 ≡ own → ⊥) → reaches es maxEntries at ≡ true
-      marking-other at l d o = either (M .1 at l d) (λ h. h) (λ h. absurd (o (h .0)))
+      here : getD next at 0 ≡ e + 1
+      here = let w = M .long in getD-set-same marks at (e + 1) 0 (omega arith)
 
-      pub marking-done : {r : Bool} {next : List ℕ} → r ≡ reaches es maxEntries e → next ≡ marks → r ≡ true → Known es next
-      marking-done q s h = rw s (M .0, λ f l d. either (M .1 f l d) (λ k. k) (λ k. sym (k .1) ∙ sym q ∙ h))
+      else : (f : ℕ) → (f ≡ at → ⊥) → getD next f 0 ≡ getD marks f 0
+      else f n = getD-set-other marks at f (e + 1) 0 n
+
+      -- what has the climb's mark keeps it
+      keeps : (f : ℕ) → getD marks f 0 ≡ e + 1 → getD next f 0 ≡ e + 1
+      keeps f o = split (eqb f at) (λ q. rw (eqb-true f at q) here) (λ q. else f (eqb-false f at q) ∙ o)
+
+      pub marking-more : Marking es e (e + 1) (parent es at) next
+      marking-more = record {
+        long = length-set marks at (e + 1) ∙ M .long;
+        bound = λ f. split (eqb f at)
+            (λ q. rw (eqb-true f at q) (let z = here in omega arith))
+            (λ q. rw (else f (eqb-false f at q)) (M .bound f));
+        older = λ f z o. split (eqb f at)
+            (λ q. absurd (o (rw (eqb-true f at q) here)))
+            (λ q. let k = else f (eqb-false f at q) in M .older f (λ y. z (k ∙ y)) (λ y. o (k ∙ y)));
+        same = λ f o. split (eqb f at)
+            (λ q. rw (eqb-true f at q) h)
+            (λ q. M .same f (sym (else f (eqb-false f at q)) ∙ o));
+        up = λ f o. split (eqb f at)
+            (λ q. rw (eqb-true f at q) (d, inr refl))
+            (λ q.
+            let s = M .up f (sym (else f (eqb-false f at q)) ∙ o) in
+            (s .0, inl (either (s .1) (keeps (parent es f)) (λ z. rw z here))));
+      }
+
+    -- entries with the climb's mark that stand below each other never come to entry 0
+    cycle : getD marks at 0 ≡ e + 1 → (n f : ℕ) → getD marks f 0 ≡ e + 1 → reaches es n f ≡ false
+    cycle h zero f o = reaches-none es 0 f refl ∙ ne-eqb f 0 (M .up f o .0)
+    cycle h (suc n) f o =
+        let s = M .up f o in
+        reaches-up es (suc n) f (s .0) (λ z. omega arith) ∙ rw (sub-one (suc n)) (either (s .1) (cycle h n (parent es f)) (λ z. rw z (cycle h n at h)))
+
+    -- a mark on the way decides
+    pub marking-met : (n : ℕ) → Rest es e n at → (getD marks at 0 ≡ 0 → ⊥) → not (eqb (getD marks at 0) (e + 1)) ≡ reaches es maxEntries e
+    marking-met n r d = split (eqb (getD marks at 0) (e + 1))
+        (λ q. rw q (sym (r .0 ∙ cycle (eqb-true (getD marks at 0) (e + 1) q) n at (eqb-true (getD marks at 0) (e + 1) q))))
+        (λ q. rw q (sym (r .1 ∙ M .older at d (eqb-false (getD marks at 0) (e + 1) q))))
+
+    pub marking-done : {r : Bool} → r ≡ reaches es maxEntries e → r ≡ true → Known es marks (e + 1)
+    marking-done q h = (
+      M .long,
+      (
+        M .bound,
+        λ f d. split (eqb (getD marks f 0) (e + 1))
+            (λ p. sym (M .same f (eqb-true (getD marks f 0) (e + 1) p)) ∙ sym q ∙ h)
+            (λ p. M .older f d (eqb-false (getD marks f 0) (e + 1) p)),
+      ),
+    )

@@ -2,7 +2,7 @@
 use mathlib.Core.Path.{_≡_}
 use mathlib.Core.Bool.{Bool, true, cond, not}
 use mathlib.Core.List.{List, [], _∷_}
-use Prim.Native.Nat.{ℕ, _<_}
+use Prim.Native.Nat.{ℕ, _≤_, _<_}
 use lib.Dec.{eqb}
 use lib.ListN.{length, getD}
 use Rattle.laws.specs.Tests.{allOf}
@@ -21,9 +21,10 @@ liveClimbEnds es e = cond (live es e) (climbEnds es e) true
 abbrev pub ParentsLive : List ℕ → Type 0
 ParentsLive es = (e : ℕ) → live es e ≡ true → (parent es e < maxEntries) × (live es (parent es e) ≡ true)
 
--- a marked entry comes to entry 0
-abbrev pub Known : List ℕ → List ℕ → Type 0
-Known es marks = (length marks ≡ maxEntries) × ((e : ℕ) → e < maxEntries → (getD marks e 0 ≡ 0 → ⊥) → reaches es maxEntries e ≡ true)
+-- the marks of n climbs: a marked entry comes to entry 0
+abbrev pub Known : List ℕ → List ℕ → ℕ → Type 0
+Known es marks n =
+    (length marks ≡ maxEntries) × (((e : ℕ) → getD marks e 0 ≤ n) × ((e : ℕ) → (getD marks e 0 ≡ 0 → ⊥) → reaches es maxEntries e ≡ true))
 
 -- two live entries, by their kinds k and l and their objects o and p
 unfoldable pub cellsAgree : ℕ → ℕ → ℕ → ℕ → Bool

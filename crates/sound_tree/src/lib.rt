@@ -68,10 +68,10 @@ fn rows_sound(entries: &[u64], end: usize, next: u64) -> bool
     true
 }
 
-// Climbing from `e` comes to entry 0. The entries on the way get the climb's mark; one that has another's is known to come there.
+// Climbing from `e` comes to entry 0. The entries on the way get the climb's mark: an older one's is known to come there, its own is a cycle.
 fn climb_ends(entries: &[u64], marks: &mut [u64], e: usize) -> bool
-    requires { ⌜ (length (now entries) ≡ entryWidth * maxEntries) × (((e < maxEntries) × (live (now entries) e ≡ true)) × (ParentsLive (now entries) × Known (now entries) (now marks))) ⌝ }
-    ensures { λ r. ⌜ (r ≡ reaches (now (entries .entry)) maxEntries e) × (r ≡ true → Known (now (entries .entry)) (now (marks .exit))) ⌝ }
+    requires { ⌜ (length (now entries) ≡ entryWidth * maxEntries) × (((e < maxEntries) × (live (now entries) e ≡ true)) × (ParentsLive (now entries) × Known (now entries) (now marks) e)) ⌝ }
+    ensures { λ r. ⌜ (r ≡ reaches (now (entries .entry)) maxEntries e) × (r ≡ true → Known (now (entries .entry)) (now (marks .exit)) (e + 1)) ⌝ }
 {
     let own = e as u64 + 1;
     let mut at = e;
@@ -82,9 +82,7 @@ fn climb_ends(entries: &[u64], marks: &mut [u64], e: usize) -> bool
         }
         let mark = marks[at];
         if mark != 0 {
-            if mark != own {
-                return true;
-            }
+            return mark != own;
         }
         marks[at] = own;
         at = entries[3 * at + 1] as usize;

@@ -11,12 +11,12 @@ use Rattle.laws.proofs.Tests.{all-none, all-more, all-fails}
 use Rattle.sound_objects.proofs.Live.{live-yes}
 use Rattle.sound_tree.specs.Fast.{liveClimbEnds, Known}
 use Rattle.sound_tree.proofs.Rows.{all-past, climb-free, climb-live, climb-past}
-use Rattle.sound_tree.proofs.Marks.{known-none, known-same}
+use Rattle.sound_tree.proofs.Marks.{known-none, known-same, known-past}
 use Rattle.sound_tree.proofs.climbs_end.Statement.{statement}
 use Rattle.sound_tree.proofs.climbs_end.Tie as tie
 
 abbrev Inv-loop : tie.InvT-loop
-Inv-loop entries end marks₀ e₀ marks e = (e ≤ end) × (Known entries marks × (allBelow (liveClimbEnds entries) e ≡ true))
+Inv-loop entries end marks₀ e₀ marks e = (e ≤ end) × (Known entries marks e × (allBelow (liveClimbEnds entries) e ≡ true))
 
 abbrev μ-loop : tie.MeasureT-loop
 μ-loop entries end marks₀ e₀ marks e = end - e
@@ -48,7 +48,7 @@ climbs-end-spec =
           (λ w.
           let r = not-false _ (w .4 .left) in
           (known-same _ (w .2 .last .1 .0) (w .2 .ensures .1 r) (w .5), all-more _ _ (l .inv .1 .1) (climb-live _ _ (w .0 .taken) ∙ sym (w .2 .ensures .0) ∙ r)))
-          (λ w. (known-same _ (l .marks) (l .inv .1 .0) (w .1), all-more _ _ (l .inv .1 .1) (climb-free _ _ (w .0 .left))))
+          (λ w. (known-past _ (l .marks) (l .inv .1 .0) (w .1), all-more _ _ (l .inv .1 .1) (climb-free _ _ (w .0 .left))))
           (c .if1 .came),
     ))
     (λ c.
