@@ -12,7 +12,7 @@ use Rattle.laws.proofs.Bools.{or-left, or-right, split, clash}
 use Rattle.tables.specs.Tables.{ruleType, ruleKey}
 use Rattle.bitmap.specs.Bitmap.{flag, withFlag}
 use Rattle.bitmap.proofs.Flags.{flag-set}
-use Rattle.sound_rules.specs.Flags.{flagOf, keyIs}
+use Rattle.sound_rules.specs.Flags.{flagOf, keyIs, Marked}
 use Rattle.sound_rules.specs.Rules.{sameKey, newKey}
 use Rattle.sound_rules.proofs.Facts.{new-key}
 
@@ -28,10 +28,6 @@ flag-below key = mod-lt key (omega arith)
 
 pub flag-in : (key b : ℕ) → b ≡ flagOf key → b < 1024
 flag-in key b e = let h = flag-below key in omega arith
-
--- every rule below i has its flag set
-abbrev pub Marked : List ℕ → List ℕ → ℕ → Type 0
-Marked rules seen i = (j : ℕ) → j < i → flag seen (flagOf (ruleKey rules j)) ≡ true
 
 module _ (rules : List ℕ) (i b : ℕ) (own : b ≡ flagOf (ruleKey rules i)) (seen : List ℕ) (m : Marked rules seen i) where
   -- where the flag of rule i is clear, its key is new

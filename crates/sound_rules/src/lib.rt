@@ -9,14 +9,14 @@ use tables::rows::PATH_RULE;
 use tables::rows::PORT_RULE;
 use tables::rows::RULE_WIDTH;
 ghost use mathlib.Core.Path.{_≡_};
-ghost use Prim.Native.Nat.{_*_, _<_};
+ghost use mathlib.Core.Bool.{true};
+ghost use Prim.Native.Nat.{_+_, _*_, _<_};
 ghost use lib.ListN.{length};
-ghost use Rattle.laws.specs.Tests.{allBelow};
 ghost use Rattle.access.specs.Limits.{maxEntries};
 ghost use Rattle.tables.specs.Tables.{entryWidth, ruleType, ruleKey};
 ghost use Rattle.sound_objects.specs.Objects.{Indexed};
-ghost use Rattle.sound_rules.specs.Flags.{flagOf, keyIs};
-ghost use Rattle.sound_rules.specs.Rules.{isFileOf, fileObject, rightsFit, pathSound, portSound, cellsSound, ruleSound, newKey, ruleCount, rulesSound, masksKnown};
+ghost use Rattle.sound_rules.specs.Flags.{flagOf, keyIs, Marked};
+ghost use Rattle.sound_rules.specs.Rules.{isFileOf, fileObject, rightsFit, pathSound, portSound, cellsSound, newKey, ruleCount, rulesSound, masksKnown};
 
 // Entry `e` is live, no directory, and of the object.
 fn is_file_of(entries: &[u64], object: u64, e: usize) -> bool
@@ -118,56 +118,6 @@ fn cells_sound(
     false
 }
 
-fn rule_sound(
-    entries: &[u64],
-    heads: &[u64],
-    links: &[u64],
-    next: u64,
-    fs: Rights,
-    net: Rights,
-    rules: &[u64],
-    i: usize,
-) -> bool
-    requires { ⌜ (i < ruleCount (now rules)) × ((length (now entries) ≡ entryWidth * maxEntries) × Indexed (now entries) (now heads) (now links)) ⌝ }
-    ensures { λ r. ⌜ r ≡ ruleSound (now (entries .entry)) next (fs .0) (net .0) (now (rules .entry)) i ⌝ }
-{
-    cells_sound(
-        entries,
-        heads,
-        links,
-        next,
-        fs,
-        net,
-        rules[3 * i],
-        rules[3 * i + 1],
-        Rights(rules[3 * i + 2]),
-    )
-}
-
-fn each_sound(
-    entries: &[u64],
-    heads: &[u64],
-    links: &[u64],
-    next: u64,
-    fs: Rights,
-    net: Rights,
-    rules: &[u64],
-) -> bool
-    requires { ⌜ (length (now entries) ≡ entryWidth * maxEntries) × Indexed (now entries) (now heads) (now links) ⌝ }
-    ensures { λ r. ⌜ r ≡ allBelow (ruleSound (now (entries .entry)) next (fs .0) (net .0) (now (rules .entry))) (ruleCount (now (rules .entry))) ⌝ }
-{
-    let n = rules.len() / RULE_WIDTH;
-    let mut i = 0;
-    while i < n {
-        if rule_sound(entries, heads, links, next, fs, net, rules, i) {
-            i += 1;
-        } else {
-            return false;
-        }
-    }
-    true
-}
-
 // Rule `j` has the type and the key.
 fn same_key(rules: &[u64], j: usize, ty: u64, key: u64) -> bool
     requires { ⌜ j < ruleCount (now rules) ⌝ }
@@ -200,25 +150,16 @@ fn flag_of(key: u64) -> usize
     (key % 1024) as usize
 }
 
-// A clear flag tells that the key is new; where it is set, the rules before decide.
-fn keys_new(rules: &[u64]) -> bool
-    ensures { λ r. ⌜ r ≡ allBelow (newKey (now (rules .entry))) (ruleCount (now (rules .entry))) ⌝ }
+// The key of rule `i` is new: a clear flag tells so, and gets set; where it is set already, the rules before decide.
+fn take_key(rules: &[u64], seen: &mut [u64], i: usize, ty: u64, key: u64) -> bool
+    requires { ⌜ (i < ruleCount (now rules)) × ((ty ≡ ruleType (now rules) i) × (key ≡ ruleKey (now rules) i)) × ((length (now seen) ≡ 16) × Marked (now rules) (now seen) i) ⌝ }
+    ensures { λ r. ⌜ (r ≡ newKey (now (rules .entry)) i) × (r ≡ true → Marked (now (rules .entry)) (now (seen .exit)) (i + 1)) ⌝ }
 {
-    let n = rules.len() / RULE_WIDTH;
-    let mut seen = [0u64; 16];
-    let mut i = 0;
-    while i < n {
-        let key = rules[3 * i + 1];
-        let b = flag_of(key);
-        if is_set(&seen, b) {
-            if !new_key(rules, i, rules[3 * i], key) {
-                return false;
-            }
-        } else {
-            set_flag(&mut seen, b);
-        }
-        i += 1;
+    let b = flag_of(key);
+    if is_set(seen, b) {
+        return new_key(rules, i, ty, key);
     }
+    set_flag(seen, b);
     true
 }
 
@@ -235,10 +176,22 @@ pub fn rules_sound(
     requires { ⌜ (length (now entries) ≡ entryWidth * maxEntries) × Indexed (now entries) (now heads) (now links) ⌝ }
     ensures { λ r. ⌜ r ≡ rulesSound (now (entries .entry)) next (fs .0) (net .0) (now (rules .entry)) ⌝ }
 {
-    if !each_sound(entries, heads, links, next, fs, net, rules) {
-        return false;
+    let n = rules.len() / RULE_WIDTH;
+    let mut seen = [0u64; 16];
+    let mut i = 0;
+    while i < n {
+        let ty = rules[3 * i];
+        let key = rules[3 * i + 1];
+        let rights = Rights(rules[3 * i + 2]);
+        if !cells_sound(entries, heads, links, next, fs, net, ty, key, rights) {
+            return false;
+        }
+        if !take_key(rules, &mut seen, i, ty, key) {
+            return false;
+        }
+        i += 1;
     }
-    keys_new(rules)
+    true
 }
 
 // The level knows every right of the masks.
