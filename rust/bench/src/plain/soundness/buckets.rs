@@ -1,6 +1,6 @@
 //! Near-linear: entries in buckets by object, marks along climbs, bit maps for keys and pool places.
 
-use super::Method;
+use super::{unlike_those_before, Method};
 use crate::landlock::DIRECTORY;
 use crate::tables::{ENTRIES, ENTRY_WIDTH, LAYER_WIDTH, POOL, RULE_WIDTH};
 
@@ -44,17 +44,16 @@ impl<'a> Method<'a> for Buckets<'a> {
         })
     }
 
-    fn keys_distinct(rules: &[u64]) -> bool {
-        let mut seen = [0u64; KEY_FLAGS / WORD];
-        let mut each = rules.chunks_exact(RULE_WIDTH).enumerate();
-        each.all(|(number, rule)| {
-            let flag = rule[1] as usize % KEY_FLAGS;
-            let (word, bit) = (&mut seen[flag / WORD], 1 << (flag % WORD));
-            let new = *word & bit == 0;
-            *word |= bit;
-            let mut before = rules.chunks_exact(RULE_WIDTH).take(number);
-            new || before.all(|other| other[1] != rule[1] || other[0] != rule[0])
-        })
+    type Seen = [u64; KEY_FLAGS / WORD];
+
+    fn key_new(seen: &mut Self::Seen, rules: &[u64], number: usize) -> bool {
+        let flag = rules[RULE_WIDTH * number + 1] as usize % KEY_FLAGS;
+        let (word, bit) = (&mut seen[flag / WORD], 1 << (flag % WORD));
+        if *word & bit != 0 {
+            return unlike_those_before(rules, number);
+        }
+        *word |= bit;
+        true
     }
 
     fn runs_apart(layers: &[u64]) -> bool {

@@ -25,8 +25,11 @@ pub trait Method<'a>: Sized {
     /// Whether some live entry other than a directory has the object.
     fn is_file_object(&self, object: u64) -> bool;
 
-    /// Whether no two rules are for the same object or port.
-    fn keys_distinct(rules: &[u64]) -> bool;
+    /// What is kept of the rules gone over.
+    type Seen: Default;
+
+    /// Whether no rule before this one, all of them gone over, is for the same object or port.
+    fn key_new(seen: &mut Self::Seen, rules: &[u64], number: usize) -> bool;
 
     /// Whether the runs of layers in use, each within the pool, don't overlap.
     fn runs_apart(layers: &[u64]) -> bool;
@@ -106,6 +109,13 @@ fn entries_sound(entries: &[u64], end: usize, next_object: u64) -> bool {
         })
 }
 
+/// Whether no rule before this one is for the same object or port, by comparing.
+fn unlike_those_before(rules: &[u64], number: usize) -> bool {
+    let (before, rest) = rules.split_at(RULE_WIDTH * number);
+    let mut before = before.chunks_exact(RULE_WIDTH);
+    before.all(|other| other[1] != rest[1] || other[0] != rest[0])
+}
+
 /// What rules and masks are tested against.
 struct RuleTest<M> {
     next_object: u64,
@@ -167,8 +177,11 @@ impl<'a, M: Method<'a>> RuleTest<M> {
     }
 
     fn rules_sound(&self, masks: &[u64], rules: &[u64]) -> bool {
-        let mut each = rules.chunks_exact(RULE_WIDTH);
-        each.all(|rule| self.rule_sound(masks, rule)) && M::keys_distinct(rules)
+        let mut seen = M::Seen::default();
+        let mut each = rules.chunks_exact(RULE_WIDTH).enumerate();
+        each.all(|(number, rule)| {
+            self.rule_sound(masks, rule) && M::key_new(&mut seen, rules, number)
+        })
     }
 
     fn rule_sound(&self, masks: &[u64], rule: &[u64]) -> bool {

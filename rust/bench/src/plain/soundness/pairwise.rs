@@ -1,8 +1,8 @@
 //! Loops over pairs.
 
-use super::Method;
+use super::{unlike_those_before, Method};
 use crate::landlock::DIRECTORY;
-use crate::tables::{ENTRIES, ENTRY_WIDTH, LAYER_WIDTH, RULE_WIDTH};
+use crate::tables::{ENTRIES, ENTRY_WIDTH, LAYER_WIDTH};
 
 pub struct Pairwise<'a> {
     entries: &'a [u64],
@@ -20,12 +20,10 @@ impl<'a> Method<'a> for Pairwise<'a> {
         rows.any(|row| row[2] == object && row[0] != 0 && row[0] != DIRECTORY)
     }
 
-    fn keys_distinct(rules: &[u64]) -> bool {
-        let mut each = rules.chunks_exact(RULE_WIDTH).enumerate();
-        each.all(|(number, rule)| {
-            let mut before = rules.chunks_exact(RULE_WIDTH).take(number);
-            before.all(|other| other[1] != rule[1] || other[0] != rule[0])
-        })
+    type Seen = ();
+
+    fn key_new(_: &mut (), rules: &[u64], number: usize) -> bool {
+        unlike_those_before(rules, number)
     }
 
     fn runs_apart(layers: &[u64]) -> bool {
