@@ -2,7 +2,6 @@
 pub mod Bools
 pub mod Tests
 pub mod Conditions
-pub mod Readings
 pub mod Refusals
 pub mod Cells
 pub mod Copies

@@ -15,8 +15,8 @@ use Rattle.tables.specs.Layers.{handlesAny, rulesetCount, rulesetFrom, rulesetT
 use Rattle.sound_rules.specs.Rules.{rulesSound, masksKnown}
 use Rattle.sound_rulesets.specs.Rulesets.{rulesetEnd, openSound, rulesetSound}
 
-module _ (es : List ℕ) (next level : ℕ) (rs : List ℕ) (r : ℕ) where
-  -- the masks
+-- a ruleset is open, by its masks
+module _ (rs : List ℕ) (r : ℕ) where
   abbrev fs : ℕ
   fs = getD rs (rulesetWidth * r) 0
 
@@ -26,13 +26,17 @@ module _ (es : List ℕ) (next level : ℕ) (rs : List ℕ) (r : ℕ) where
   abbrev scope : ℕ
   scope = cell rs rulesetWidth r 2
 
-  module _ {b q : Bool} (h : b ≡ handlesAny fs net scope) where
-    pub row-closed : not b ≡ true → q ≡ zeros (part rs (rulesetWidth * r) (rulesetEnd r)) → q ≡ rulesetSound es next level rs r
-    unfolding rulesetSound isOpen
-    row-closed n k = rw (add-zero (rulesetWidth * r), sym h ∙ not-true b n) k
+  pub open-cells : {b : Bool} → b ≡ handlesAny fs net scope → b ≡ isOpen rs r
+  unfolding isOpen
+  open-cells h = rw (add-zero (rulesetWidth * r)) h
 
-    pub row-open : not b ≡ false
-        → q ≡ allOf (leb (rulesetCount rs r) maxRules ∷ masksKnown level fs net scope ∷ zeros (part rs (rulesetTo rs r) (rulesetEnd r)) ∷ rulesSound es next fs net (part rs (rulesetFrom r) (rulesetTo rs r)) ∷ [])
-        → q ≡ rulesetSound es next level rs r
-    unfolding rulesetSound isOpen openSound rulesetAt
-    row-open n k = rw (add-zero (rulesetWidth * r), sym h ∙ not-false b n) k
+module _ (es : List ℕ) (next level : ℕ) (rs : List ℕ) (r : ℕ) {b q : Bool} (h : b ≡ handlesAny (fs rs r) (net rs r) (scope rs r)) where
+  pub row-closed : not b ≡ true → q ≡ zeros (part rs (rulesetWidth * r) (rulesetEnd r)) → q ≡ rulesetSound es next level rs r
+  unfolding rulesetSound
+  row-closed n k = rw (sym (open-cells rs r h) ∙ not-true b n) k
+
+  pub row-open : not b ≡ false
+      → q ≡ allOf (leb (rulesetCount rs r) maxRules ∷ masksKnown level (fs rs r) (net rs r) (scope rs r) ∷ zeros (part rs (rulesetTo rs r) (rulesetEnd r)) ∷ rulesSound es next (fs rs r) (net rs r) (part rs (rulesetFrom r) (rulesetTo rs r)) ∷ [])
+      → q ≡ rulesetSound es next level rs r
+  unfolding rulesetSound openSound rulesetAt
+  row-open n k = rw (sym (open-cells rs r h) ∙ not-false b n, add-zero (rulesetWidth * r)) k

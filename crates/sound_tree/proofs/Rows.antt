@@ -74,13 +74,9 @@ module _ (es : List ℕ) (next e : ℕ) where
 
 -- ---- its climb
 module _ (es : List ℕ) (e : ℕ) where
-  pub climb-free : first es e ≡ 0 → liveClimbEnds es e ≡ true
+  pub climb-free : live es e ≡ false → liveClimbEnds es e ≡ true
   unfolding liveClimbEnds
-  climb-free h = rw (live-no es e h)
-
-  pub climb-past : {end : ℕ} → Ends es end → end ≤ e → liveClimbEnds es e ≡ true
-  unfolding liveClimbEnds
-  climb-past E h = rw (free-kind es E e h)
+  climb-free l = rw l
 
   pub climb-live : (first es e ≡ 0 → ⊥) → liveClimbEnds es e ≡ climbEnds es e
   unfolding liveClimbEnds

@@ -8,8 +8,8 @@ use Rattle.laws.specs.Tests.{anyBelow}
 use Rattle.laws.proofs.Tests.{any-start, any-more, any-done, any-found}
 use Rattle.access.specs.Limits.{maxRulesets}
 use Rattle.tables.specs.Layers.{isOpen}
+use Rattle.sound_rulesets.proofs.Rows.{open-cells}
 use Rattle.sound.specs.Sound.{anyOpen}
-use Rattle.sound.proofs.Parts.{open-cells}
 use Rattle.sound.proofs.any_open.Statement.{statement}
 use Rattle.sound.proofs.any_open.Tie as tie
 

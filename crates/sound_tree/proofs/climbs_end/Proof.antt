@@ -8,9 +8,10 @@ use borrow.Author.Needs.{needs}
 use borrow.Author.Tests.{not-true, not-false}
 use Rattle.laws.specs.Tests.{allBelow}
 use Rattle.laws.proofs.Tests.{all-none, all-more, all-fails}
-use Rattle.sound_objects.proofs.Live.{live-yes}
+use Rattle.sound_objects.proofs.Live.{live-no, live-yes}
+use Rattle.sound_objects.proofs.Rows.{free-kind}
 use Rattle.sound_tree.specs.Fast.{liveClimbEnds, Known}
-use Rattle.sound_tree.proofs.Rows.{all-past, climb-free, climb-live, climb-past}
+use Rattle.sound_tree.proofs.Rows.{all-past, climb-free, climb-live}
 use Rattle.sound_tree.proofs.Marks.{known-none, known-same, known-past}
 use Rattle.sound_tree.proofs.climbs_end.Statement.{statement}
 use Rattle.sound_tree.proofs.climbs_end.Tie as tie
@@ -48,10 +49,10 @@ climbs-end-spec =
           (λ w.
           let r = not-false _ (w .4 .left) in
           (known-same _ (w .2 .last .1 .0) (w .2 .ensures .1 r) (w .5), all-more _ _ (l .inv .1 .1) (climb-live _ _ (w .0 .taken) ∙ sym (w .2 .ensures .0) ∙ r)))
-          (λ w. (known-past _ (l .marks) (l .inv .1 .0) (w .1), all-more _ _ (l .inv .1 .1) (climb-free _ _ (w .0 .left))))
+          (λ w. (known-past _ (l .marks) (l .inv .1 .0) (w .1), all-more _ _ (l .inv .1 .1) (climb-free _ _ (live-no _ _ (w .0 .left)))))
           (c .if1 .came),
     ))
     (λ c.
     let l = c .before .loop in
     let s = c .before .before .before in
-    all-past _ _ (s .args .end) (l .e) (omega arith) (l .inv .1 .1) (λ j k. climb-past _ j (s .pre .0) k)))
+    all-past _ _ (s .args .end) (l .e) (omega arith) (l .inv .1 .1) (λ j k. climb-free _ j (free-kind _ (s .pre .0) j k))))
