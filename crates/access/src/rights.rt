@@ -70,9 +70,8 @@ impl Rights {
 
     pub const FS_LEVEL_4: Rights = Rights(32767);
 
+    // Level 6 adds none.
     pub const FS_LEVEL_5: Rights = Rights(65535);
-
-    pub const FS_LEVEL_6: Rights = Rights(65535);
     // No network rights below level 4, and no scopes below level 6.
     pub const NET_LEVEL_4: Rights = Rights(3);
 

@@ -2,14 +2,10 @@
 // does the call. A refusal changes no cell.
 use access::errno::Errno;
 use access::errno::Reply;
-use tree::Replaced;
 ghost use mathlib.Core.Path.{_≡_};
 ghost use Rattle.tables.specs.Tables.{before, after};
 ghost use Rattle.tables.specs.Outcome.{outcome};
 ghost use Rattle.tree.specs.Create.{treeCreate, treeRemove};
-ghost use Rattle.tree.specs.Link.{treeLink};
-ghost use Rattle.tree.specs.Rename.{treeRename};
-ghost use Rattle.tree.specs.Exchange.{treeExchange};
 
 // Makes an entry of a kind in a directory: EIO, ESRCH, ENOENT, ENOTDIR, EINVAL, EACCES, ENOSPC. Answers its number.
 pub fn create(
@@ -47,68 +43,5 @@ pub fn remove(
     if !sound::is_sound(system, entries, rulesets, layers, pool, threads) {
         return Reply::Refused(Errno::EIO);
     }
-    tree_create::remove::remove(system, entries, rulesets, layers, pool, threads, t, e)
-}
-
-// Links an entry into a directory: EIO, ESRCH, ENOENT, EBUSY, ENOTDIR, EPERM, EACCES, EXDEV, ENOSPC. Answers the new entry's number.
-pub fn link(
-    system: &[u64],
-    entries: &mut [u64],
-    rulesets: &[u64],
-    layers: &[u64],
-    pool: &[u64],
-    threads: &[u64],
-    t: u64,
-    s: u64,
-    d: u64,
-) -> Reply
-    ensures { λ answer. ⌜ outcome answer (after system entries rulesets layers pool threads) ≡ treeLink (before system entries rulesets layers pool threads) t s d ⌝ }
-{
-    if !sound::is_sound(system, entries, rulesets, layers, pool, threads) {
-        return Reply::Refused(Errno::EIO);
-    }
-    tree_link::link(system, entries, rulesets, layers, pool, threads, t, s, d)
-}
-
-// Moves an entry to a directory, in place of another or of none: EIO, ESRCH, ENOENT, EBUSY, ENOTDIR, EINVAL, EACCES, EXDEV, then
-// 0 for two entries of one object, ENOTDIR, EISDIR, ENOTEMPTY.
-pub fn rename(
-    system: &[u64],
-    entries: &mut [u64],
-    rulesets: &[u64],
-    layers: &[u64],
-    pool: &[u64],
-    threads: &[u64],
-    t: u64,
-    s: u64,
-    d: u64,
-    x: Replaced,
-) -> Reply
-    ensures { λ answer. ⌜ outcome answer (after system entries rulesets layers pool threads) ≡ treeRename (before system entries rulesets layers pool threads) t s d x ⌝ }
-{
-    if !sound::is_sound(system, entries, rulesets, layers, pool, threads) {
-        return Reply::Refused(Errno::EIO);
-    }
-    tree_rename::rename(system, entries, rulesets, layers, pool, threads, t, s, d, x)
-}
-
-// Exchanges an entry with one of a directory: EIO, ESRCH, ENOENT, EBUSY, ENOTDIR, EINVAL, EACCES, EXDEV.
-pub fn exchange(
-    system: &[u64],
-    entries: &mut [u64],
-    rulesets: &[u64],
-    layers: &[u64],
-    pool: &[u64],
-    threads: &[u64],
-    t: u64,
-    s: u64,
-    d: u64,
-    x: u64,
-) -> Reply
-    ensures { λ answer. ⌜ outcome answer (after system entries rulesets layers pool threads) ≡ treeExchange (before system entries rulesets layers pool threads) t s d x ⌝ }
-{
-    if !sound::is_sound(system, entries, rulesets, layers, pool, threads) {
-        return Reply::Refused(Errno::EIO);
-    }
-    tree_exchange::exchange(system, entries, rulesets, layers, pool, threads, t, s, d, x)
+    tree_remove::remove(system, entries, rulesets, layers, pool, threads, t, e)
 }

@@ -1,9 +1,9 @@
 // What C and Rust call: every call of the broker, with its arguments as numbers and its reply as one number.
 use access::errno::Reply;
 use access::rights::Rights;
+use cells::row_read;
+use cells::write;
 use judge::rules::cells_of;
-use tables::cells::row_read;
-use tables::cells::write;
 use tables::rows::LAYER_WIDTH;
 use tree::Replaced;
 ghost use mathlib.Core.Path.{_≡_};
@@ -17,7 +17,7 @@ ghost use Rattle.tables.specs.Fresh.{freshened};
 ghost use Rattle.ruleset.specs.Create.{created, closed};
 ghost use Rattle.rule.specs.Rule.{pathAdded, portAdded};
 ghost use Rattle.domain_restrict.specs.Restrict.{restrictCall};
-ghost use Rattle.domain.specs.Layer.{layerCode, layerPart};
+ghost use Rattle.domain.specs.Layer.{layerRead, layerPart};
 ghost use Rattle.domain.specs.Threads.{cloned, privsSet, adminSet};
 ghost use Rattle.fs_access.specs.Access.{accessCall};
 ghost use Rattle.net.specs.Port.{portCall};
@@ -90,9 +90,10 @@ pub extern "C" fn skein_create_ruleset(
     bytes: &[u8],
     flags: u64,
 ) -> u64
-    ensures { λ answer. ⌜ Answers answer (after system entries rulesets layers pool threads) (created (before system entries rulesets layers pool threads) (now (bytes .entry)) flags) ⌝ }
+    ensures answer { λ answer. ⌜ Answers answer (after system entries rulesets layers pool threads) (created (before system entries rulesets layers pool threads) (now (bytes .entry)) flags) ⌝ }
+    ensures bytes { λ answer. ⌜ now (bytes .exit) ≡ now (bytes .entry) ⌝ }
 {
-    number(broker::create_ruleset(
+    number(broker_rulesets::create_ruleset(
         system,
         entries,
         rulesets,
@@ -116,7 +117,7 @@ pub extern "C" fn skein_close_ruleset(
 ) -> u64
     ensures { λ answer. ⌜ Answers answer (after system entries rulesets layers pool threads) (closed (before system entries rulesets layers pool threads) r) ⌝ }
 {
-    number(broker::close_ruleset(system, entries, rulesets, layers, pool, threads, r))
+    number(broker_rulesets::close_ruleset(system, entries, rulesets, layers, pool, threads, r))
 }
 
 #[no_mangle]
@@ -134,7 +135,7 @@ pub extern "C" fn skein_add_path_rule(
 ) -> u64
     ensures { λ answer. ⌜ Answers answer (after system entries rulesets layers pool threads) (pathAdded (before system entries rulesets layers pool threads) r e rights flags) ⌝ }
 {
-    number(broker::add_path_rule(
+    number(broker_rulesets::add_path_rule(
         system,
         entries,
         rulesets,
@@ -163,7 +164,7 @@ pub extern "C" fn skein_add_port_rule(
 ) -> u64
     ensures { λ answer. ⌜ Answers answer (after system entries rulesets layers pool threads) (portAdded (before system entries rulesets layers pool threads) r p rights flags) ⌝ }
 {
-    number(broker::add_port_rule(
+    number(broker_rulesets::add_port_rule(
         system,
         entries,
         rulesets,
@@ -191,7 +192,7 @@ pub extern "C" fn skein_restrict(
 ) -> u64
     ensures { λ answer. ⌜ Answers answer (after system entries rulesets layers pool threads) (restrictCall (before system entries rulesets layers pool threads) t r flags) ⌝ }
 {
-    number(broker::restrict(
+    number(broker_domains::restrict(
         system,
         entries,
         rulesets,
@@ -216,7 +217,7 @@ pub extern "C" fn skein_clone(
 ) -> u64
     ensures { λ answer. ⌜ Answers answer (after system entries rulesets layers pool threads) (cloned (before system entries rulesets layers pool threads) t) ⌝ }
 {
-    number(broker::clone_thread(system, entries, rulesets, layers, pool, threads, t))
+    number(broker_domains::clone_thread(system, entries, rulesets, layers, pool, threads, t))
 }
 
 #[no_mangle]
@@ -231,7 +232,7 @@ pub extern "C" fn skein_set_no_new_privs(
 ) -> u64
     ensures { λ answer. ⌜ Answers answer (after system entries rulesets layers pool threads) (privsSet (before system entries rulesets layers pool threads) t) ⌝ }
 {
-    number(broker::set_no_new_privs(system, entries, rulesets, layers, pool, threads, t))
+    number(broker_domains::set_no_new_privs(system, entries, rulesets, layers, pool, threads, t))
 }
 
 #[no_mangle]
@@ -247,7 +248,7 @@ pub extern "C" fn skein_set_admin(
 ) -> u64
     ensures { λ answer. ⌜ Answers answer (after system entries rulesets layers pool threads) (adminSet (before system entries rulesets layers pool threads) t on) ⌝ }
 {
-    number(broker::set_admin(system, entries, rulesets, layers, pool, threads, t, on))
+    number(broker_domains::set_admin(system, entries, rulesets, layers, pool, threads, t, on))
 }
 
 #[no_mangle]
@@ -351,7 +352,7 @@ pub extern "C" fn skein_link(
 ) -> u64
     ensures { λ answer. ⌜ Answers answer (after system entries rulesets layers pool threads) (treeLink (before system entries rulesets layers pool threads) t s d) ⌝ }
 {
-    number(broker_tree::link(system, entries, rulesets, layers, pool, threads, t, s, d))
+    number(broker_moves::link(system, entries, rulesets, layers, pool, threads, t, s, d))
 }
 
 #[no_mangle]
@@ -370,7 +371,7 @@ pub extern "C" fn skein_rename(
 ) -> u64
     ensures { λ answer. ⌜ Answers answer (after system entries rulesets layers pool threads) (treeRename (before system entries rulesets layers pool threads) t s d (replacedBy replaces x)) ⌝ }
 {
-    number(broker_tree::rename(
+    number(broker_moves::rename(
         system,
         entries,
         rulesets,
@@ -399,7 +400,7 @@ pub extern "C" fn skein_exchange(
 ) -> u64
     ensures { λ answer. ⌜ Answers answer (after system entries rulesets layers pool threads) (treeExchange (before system entries rulesets layers pool threads) t s d x) ⌝ }
 {
-    number(broker_tree::exchange(system, entries, rulesets, layers, pool, threads, t, s, d, x))
+    number(broker_moves::exchange(system, entries, rulesets, layers, pool, threads, t, s, d, x))
 }
 
 // `span` receives the first pool cell of the layer's rules and their number of cells.
@@ -414,11 +415,11 @@ pub extern "C" fn skein_layer_rules(
     l: u64,
     span: &mut [u64],
 ) -> u64
-    ensures answer { λ r. ⌜ r ≡ codeOf (layerCode (before system entries rulesets layers pool threads) l) ⌝ }
+    ensures answer { λ r. ⌜ Answers r (after system entries rulesets layers pool threads) (layerRead (before system entries rulesets layers pool threads) l) ⌝ }
     ensures part { λ r. ⌜ now (span .exit) ≡ set (set (now (span .entry)) 0 (spanFrom (before system entries rulesets layers pool threads) l)) 1 (length (layerPart (before system entries rulesets layers pool threads) l)) ⌝ }
 {
     let mut code = 0;
-    let rules = broker::layer_rules(
+    let rules = broker_domains::layer_rules(
         system,
         entries,
         rulesets,

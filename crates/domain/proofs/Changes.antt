@@ -1,17 +1,23 @@
 -- What the code of each call wrote comes to the call's change and to its answer. Assumes nothing.
-use mathlib.Core.Path.{_≡_}
-use mathlib.Core.List.{List, []}
+use mathlib.Core.Path.{_≡_, refl, ap}
+use mathlib.Core.Bool.{not}
+use mathlib.Core.List.{List, [], _∷_}
 use Prim.Native.Nat.{ℕ}
+use lib.Dec.{eqb}
 use borrow.Author.Tests.{ne-eqb}
-use Rattle.laws.specs.Refusals.{first}
+use Rattle.laws.specs.Refusals.{_⇒_, first}
+use Rattle.laws.proofs.Bools.{split}
 use Rattle.laws.specs.Cells.{putCell}
+use Rattle.access.specs.Errno.{EIO}
 use Rattle.access.specs.declared.errno.Reply.the-variants.{Done}
 use Rattle.tables.specs.Tables.{Tables, threadWidth}
 use Rattle.tables.specs.Layers.{layerAt}
-use Rattle.tables.specs.Outcome.{outcome, answer, withThreads}
+use Rattle.tables.specs.Outcome.{Outcome, outcome, errorOf, answer, withThreads}
 use Rattle.tables.proofs.Outcomes.{answer-done}
+use Rattle.sound.specs.Sound.{sound}
+use Rattle.sound.specs.Call.{call}
 use Rattle.domain.specs.Threads.{freeThread, copiedThread, cloneChecks, cloneDone, markChecks, markDone}
-use Rattle.domain.specs.Layer.{layerCode, layerPart}
+use Rattle.domain.specs.Layer.{layerChecks, layerRead, layerCode, layerPart}
 
 -- ---- threads
 pub clone-done : (T : Tables) (t : ℕ) {e u : ℕ} {ts : List ℕ} → e ≡ first (cloneChecks T t) → e ≡ 0 → u ≡ freeThread (T .threads) → ts ≡ copiedThread (T .threads) u t → outcome (Done u) (withThreads T ts) ≡ answer T (cloneChecks T t) (cloneDone T t)
@@ -23,6 +29,15 @@ unfolding markDone
 mark-done T t k v q z h = rw h (answer-done T (markChecks T t) (markDone T t k v) q z)
 
 -- ---- one layer's rules
+module _ (T : Tables) (l : ℕ) where
+  pub code-is : {o : Outcome} → o ≡ layerRead T l → errorOf (o .reply) ≡ layerCode T l
+  unfolding layerCode
+  code-is h = ap (λ (o : Outcome). errorOf (o .reply)) h
+
+  pub read-left : T ≡ layerRead T l .left
+  unfolding layerRead call answer
+  read-left = split (eqb (first (not (sound T) ⇒ EIO ∷ layerChecks T l)) 0) (λ q. rw q refl) (λ q. rw q refl)
+
 module _ (T : Tables) (l : ℕ) {c : ℕ} (q : c ≡ layerCode T l) where
   pub part-none : (c ≡ 0 → ⊥) → [] ≡ layerPart T l
   unfolding layerPart

@@ -1,3 +1,2 @@
-// The calls on threads and layers: the tests of each, in order, and the change that it makes.
-pub mod layer;
+// A thread cloned: the tests, in order, and the change. What the other calls on threads and layers do is defined here too.
 pub mod threads;

@@ -3,7 +3,7 @@ use crate::rules::layer_rules;
 use crate::rules::rights_on;
 use access::limits::MAX_ENTRIES;
 use access::rights::Rights;
-use tables::cells::row_read;
+use cells::row_read;
 use tables::rows::LAYER_WIDTH;
 use tables::rows::PATH_RULE;
 use tables::rows::PORT_RULE;

@@ -1,4 +1,3 @@
-// How a path or a port is judged: a layer's rules, the climb from an entry to the root, the layers of a domain.
+// How a layer judges a path or a port: its rules, and the climb from an entry to the root.
 pub mod climb;
-pub mod domain;
 pub mod rules;

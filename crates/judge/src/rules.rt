@@ -1,8 +1,8 @@
 // A layer's rules: the part of the pool that holds them, and the rights of a rule.
 use access::rights::Rights;
-use tables::cells::read;
-use tables::cells::row_read;
-use tables::cells::row_start;
+use cells::read;
+use cells::row_read;
+use cells::row_start;
 use tables::rows::LAYER_WIDTH;
 use tables::rows::RULE_WIDTH;
 use tables::rows::RULESET_HEAD;

@@ -42,7 +42,7 @@ pub extern "C" fn skein_measure_lacks(
 ) -> u64
     ensures { λ r. ⌜ r ≡ cond (lacks (now (entries .entry)) (now (layers .entry)) (now (pool .entry)) (chain (now (layers .entry)) maxDomain y) e asked) 1 0 ⌝ }
 {
-    if judge::domain::domain_lacks(entries, layers, pool, y, e, Rights(asked)) {
+    if judge_domain::domain_lacks(entries, layers, pool, y, e, Rights(asked)) {
         1
     } else {
         0
@@ -61,8 +61,8 @@ pub extern "C" fn skein_measure_rename(
 ) -> u64
     ensures { λ r. ⌜ r ≡ first (verdict (now (entries .entry)) (now (layers .entry)) (now (pool .entry)) (domain (now (layers .entry)) (now (threads .entry)) t) (renameMove (now (entries .entry)) s d None)) ⌝ }
 {
-    let m = tree::moves::rename_move(entries, s, d, Replaced::None);
-    tree::moves::thread_verdict(entries, layers, pool, threads, t, m)
+    let m = tree_moves::rename_move(entries, s, d, Replaced::None);
+    tree_moves::thread_verdict(entries, layers, pool, threads, t, m)
 }
 
 #[no_mangle]

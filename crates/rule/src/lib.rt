@@ -1,16 +1,13 @@
-// Add a rule, for a path or a port.
+// When a rule, for a path or a port, is refused.
 use access::errno::Errno;
-use access::errno::Reply;
 use access::limits::MAX_PORT;
 use access::limits::MAX_RULES;
 use access::rights::Rights;
+use cells::row_read;
 use judge::rules::rule_place;
 use judge::rules::ruleset_rules;
-use tables::cells::row_read;
-use tables::cells::row_write;
 use tables::rows::PATH_RULE;
 use tables::rows::PORT_RULE;
-use tables::rows::RULESET_HEAD;
 use tables::rows::RULESET_WIDTH;
 use tables::rows::entry_live;
 use tables::rows::level_of;
@@ -18,12 +15,10 @@ use tables::rows::object_of;
 use tables::rows::past_file_set;
 use tables::rows::ruleset_open;
 ghost use mathlib.Core.Path.{_≡_};
-ghost use Prim.Native.Nat.{_^_, _<_};
+ghost use Prim.Native.Nat.{_<_};
 ghost use Rattle.laws.specs.Refusals.{first};
-ghost use Rattle.access.specs.Limits.{maxRules};
-ghost use Rattle.tables.specs.Tables.{before, after, object, pathRule, portRule};
-ghost use Rattle.tables.specs.Outcome.{outcome, answer};
-ghost use Rattle.rule.specs.Rule.{placeIn, addForm, isFull, pathForm, portForm, addPathChecks, addPortChecks, joined, appended, added, addDone};
+ghost use Rattle.tables.specs.Tables.{before};
+ghost use Rattle.rule.specs.Rule.{placeIn, addForm, isFull, pathForm, portForm, addPathChecks, addPortChecks};
 
 fn add_form(system: &[u64], rulesets: &[u64], r: u64, rights: Rights, flags: u64) -> u64
     ensures { λ q. ⌜ q ≡ first (addForm (now (system .entry)) (now (rulesets .entry)) r (rights .0) flags) ⌝ }
@@ -44,7 +39,7 @@ fn add_form(system: &[u64], rulesets: &[u64], r: u64, rights: Rights, flags: u64
 }
 
 // Where the rule for the key stands in the ruleset; the number of its rules if there is none.
-fn place_in(rulesets: &[u64], r: u64, ty: u64, key: u64) -> usize
+pub fn place_in(rulesets: &[u64], r: u64, ty: u64, key: u64) -> usize
     ensures { λ q. ⌜ q ≡ placeIn (now (rulesets .entry)) r ty key ⌝ }
 {
     rule_place(ruleset_rules(rulesets, r), ty, key)
@@ -95,7 +90,7 @@ fn port_form(rulesets: &[u64], r: u64, port: u64, rights: Rights) -> u64
     0
 }
 
-fn add_path_checks(
+pub fn add_path_checks(
     system: &[u64],
     entries: &[u64],
     rulesets: &[u64],
@@ -116,7 +111,7 @@ fn add_path_checks(
     path_form(entries, rulesets, r, e, rights)
 }
 
-fn add_port_checks(
+pub fn add_port_checks(
     system: &[u64],
     entries: &[u64],
     rulesets: &[u64],
@@ -135,108 +130,4 @@ fn add_port_checks(
         return a;
     }
     port_form(rulesets, r, port, rights)
-}
-
-fn join_rule(rulesets: &mut [u64], r: u64, i: usize, rights: Rights)
-    requires { ⌜ i < 2 ^ 60 ⌝ }
-    ensures { λ q. ⌜ now (rulesets .exit) ≡ joined (now (rulesets .entry)) r i (rights .0) ⌝ }
-{
-    let k = RULESET_HEAD + (3 * i + 2);
-    let old = Rights(row_read(rulesets, RULESET_WIDTH, r as usize, k));
-    let both = old.join(rights);
-    row_write(rulesets, RULESET_WIDTH, r as usize, k, both.0);
-}
-
-fn append_rule(rulesets: &mut [u64], r: u64, i: u64, ty: u64, key: u64, rights: Rights)
-    requires { ⌜ i < maxRules ⌝ }
-    ensures { λ q. ⌜ now (rulesets .exit) ≡ appended (now (rulesets .entry)) r i ty key (rights .0) ⌝ }
-{
-    let k = RULESET_HEAD + 3 * (i as usize);
-    row_write(rulesets, RULESET_WIDTH, r as usize, k, ty);
-    row_write(rulesets, RULESET_WIDTH, r as usize, k + 1, key);
-    row_write(rulesets, RULESET_WIDTH, r as usize, k + 2, rights.0);
-    row_write(rulesets, RULESET_WIDTH, r as usize, 3, i + 1);
-}
-
-// Adds the rule: joins the rights of the one for the key, or appends a new one if there is room.
-fn apply_add(rulesets: &mut [u64], r: u64, ty: u64, key: u64, rights: Rights)
-    ensures { λ q. ⌜ now (rulesets .exit) ≡ added (now (rulesets .entry)) r ty key (rights .0) ⌝ }
-{
-    let place = place_in(rulesets, r, ty, key);
-    let count = row_read(rulesets, RULESET_WIDTH, r as usize, 3);
-    if count > place as u64 {
-        join_rule(rulesets, r, place, rights);
-        return;
-    }
-    if count < MAX_RULES as u64 {
-        append_rule(rulesets, r, count, ty, key, rights);
-    }
-}
-
-// Adds a rule for the entry's object.
-pub fn add_path(
-    system: &[u64],
-    entries: &[u64],
-    rulesets: &mut [u64],
-    layers: &[u64],
-    pool: &[u64],
-    threads: &[u64],
-    r: u64,
-    e: u64,
-    rights: Rights,
-    flags: u64,
-) -> Reply
-    ensures { λ q. ⌜ outcome q (after system entries rulesets layers pool threads) ≡ answer (before system entries rulesets layers pool threads) (addPathChecks (before system entries rulesets layers pool threads) r e (rights .0) flags) (addDone (before system entries rulesets layers pool threads) r pathRule (object (now (entries .entry)) e) (rights .0)) ⌝ }
-{
-    let a = add_path_checks(
-        system,
-        entries,
-        rulesets,
-        layers,
-        pool,
-        threads,
-        r,
-        e,
-        rights,
-        flags,
-    );
-    if a != 0 {
-        return Reply::Refused(Errno(a));
-    }
-    apply_add(rulesets, r, PATH_RULE, object_of(entries, e), rights);
-    Reply::Done(0)
-}
-
-// Adds a rule for a port.
-pub fn add_port(
-    system: &[u64],
-    entries: &[u64],
-    rulesets: &mut [u64],
-    layers: &[u64],
-    pool: &[u64],
-    threads: &[u64],
-    r: u64,
-    port: u64,
-    rights: Rights,
-    flags: u64,
-) -> Reply
-    ensures { λ q. ⌜ outcome q (after system entries rulesets layers pool threads) ≡ answer (before system entries rulesets layers pool threads) (addPortChecks (before system entries rulesets layers pool threads) r port (rights .0) flags) (addDone (before system entries rulesets layers pool threads) r portRule port (rights .0)) ⌝ }
-{
-    let a = add_port_checks(
-        system,
-        entries,
-        rulesets,
-        layers,
-        pool,
-        threads,
-        r,
-        port,
-        rights,
-        flags,
-    );
-    if a != 0 {
-        return Reply::Refused(Errno(a));
-    }
-    apply_add(rulesets, r, PORT_RULE, port, rights);
-    Reply::Done(0)
 }

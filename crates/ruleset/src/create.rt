@@ -1,30 +1,23 @@
-// Create and close.
+// When create is refused.
 use crate::attribute::is_stray;
 use crate::attribute::known_size;
 use crate::attribute::mask;
 use access::errno::Errno;
-use access::errno::Reply;
 use access::limits::MAX_ATTRIBUTE;
 use access::limits::MAX_RULESETS;
 use access::limits::MIN_ATTRIBUTE;
 use access::rights::Rights;
 use sound_rules::masks_known;
-use tables::cells::copy;
-use tables::cells::row_start;
-use tables::cells::row_write;
-use tables::rows::RULESET_WIDTH;
 use tables::rows::handles_any;
 use tables::rows::level_of;
 use tables::rows::ruleset_open;
 ghost use mathlib.Core.Path.{_≡_};
 ghost use Rattle.laws.specs.Refusals.{first};
-ghost use Rattle.tables.specs.Tables.{before, after};
-ghost use Rattle.tables.specs.Outcome.{outcome, answer};
-ghost use Rattle.ruleset.specs.Attribute.{fsMask, netMask, scopeMask};
-ghost use Rattle.ruleset.specs.Create.{freeRuleset, createForm, createMasks, createChecks, opened, createDone, closeChecks, closedRow, closeDone};
+ghost use Rattle.tables.specs.Tables.{before};
+ghost use Rattle.ruleset.specs.Create.{freeRuleset, createForm, createMasks, createChecks};
 
 // The lowest number that is not open; the number of rulesets if all are.
-fn free_ruleset(rulesets: &[u64]) -> usize
+pub fn free_ruleset(rulesets: &[u64]) -> usize
     ensures { λ r. ⌜ r ≡ freeRuleset (now (rulesets .entry)) ⌝ }
 {
     let mut r = 0;
@@ -77,7 +70,7 @@ fn create_masks(system: &[u64], rulesets: &[u64], bytes: &[u8]) -> u64
     0
 }
 
-fn create_checks(
+pub fn create_checks(
     system: &[u64],
     entries: &[u64],
     rulesets: &[u64],
@@ -94,90 +87,4 @@ fn create_checks(
         return e;
     }
     create_masks(system, rulesets, bytes)
-}
-
-// Opens a ruleset with the masks of the attribute and no rules.
-fn apply_create(rulesets: &mut [u64], r: usize, bytes: &[u8])
-    ensures { λ q. ⌜ now (rulesets .exit) ≡ opened (now (rulesets .entry)) r (fsMask (now (bytes .entry))) (netMask (now (bytes .entry))) (scopeMask (now (bytes .entry))) ⌝ }
-{
-    row_write(rulesets, RULESET_WIDTH, r, 0, mask(bytes, 0));
-    row_write(rulesets, RULESET_WIDTH, r, 1, mask(bytes, 8));
-    row_write(rulesets, RULESET_WIDTH, r, 2, mask(bytes, 16));
-}
-
-fn close_checks(
-    system: &[u64],
-    entries: &[u64],
-    rulesets: &[u64],
-    layers: &[u64],
-    pool: &[u64],
-    threads: &[u64],
-    r: u64,
-) -> u64
-    ensures { λ q. ⌜ q ≡ first (closeChecks (before system entries rulesets layers pool threads) r) ⌝ }
-{
-    if !ruleset_open(rulesets, r) {
-        return Errno::EBADF.0;
-    }
-    0
-}
-
-// Makes the ruleset's row zero.
-fn apply_close(rulesets: &mut [u64], r: u64)
-    ensures { λ q. ⌜ now (rulesets .exit) ≡ closedRow (now (rulesets .entry)) r ⌝ }
-{
-    let zeros = [0u64; RULESET_WIDTH];
-    let from = row_start(rulesets.len(), RULESET_WIDTH, r as usize);
-    copy(rulesets, from, &zeros);
-}
-
-// Opens the lowest free ruleset with the masks of the attribute.
-pub fn create(
-    system: &[u64],
-    entries: &[u64],
-    rulesets: &mut [u64],
-    layers: &[u64],
-    pool: &[u64],
-    threads: &[u64],
-    bytes: &[u8],
-    flags: u64,
-) -> Reply
-    ensures { λ r. ⌜ outcome r (after system entries rulesets layers pool threads) ≡ answer (before system entries rulesets layers pool threads) (createChecks (before system entries rulesets layers pool threads) (now (bytes .entry)) flags) (createDone (before system entries rulesets layers pool threads) (now (bytes .entry))) ⌝ }
-{
-    let e = create_checks(
-        system,
-        entries,
-        rulesets,
-        layers,
-        pool,
-        threads,
-        bytes,
-        flags,
-    );
-    if e != 0 {
-        return Reply::Refused(Errno(e));
-    }
-    let r = free_ruleset(rulesets);
-    apply_create(rulesets, r, bytes);
-    Reply::Done(r as u64)
-}
-
-// Closes a ruleset.
-pub fn close(
-    system: &[u64],
-    entries: &[u64],
-    rulesets: &mut [u64],
-    layers: &[u64],
-    pool: &[u64],
-    threads: &[u64],
-    r: u64,
-) -> Reply
-    ensures { λ q. ⌜ outcome q (after system entries rulesets layers pool threads) ≡ answer (before system entries rulesets layers pool threads) (closeChecks (before system entries rulesets layers pool threads) r) (closeDone (before system entries rulesets layers pool threads) r) ⌝ }
-{
-    let e = close_checks(system, entries, rulesets, layers, pool, threads, r);
-    if e != 0 {
-        return Reply::Refused(Errno(e));
-    }
-    apply_close(rulesets, r);
-    Reply::Done(0)
 }

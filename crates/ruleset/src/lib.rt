@@ -1,3 +1,3 @@
-// Create and close rulesets: the tests of each, in order, and the change that it makes.
+// A ruleset's attribute, and the tests that precede its making, in order.
 pub mod attribute;
 pub mod create;

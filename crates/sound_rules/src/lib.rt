@@ -1,22 +1,18 @@
-// The soundness test of rules, the same for rulesets and layers.
+// The soundness test of one rule, the same for rulesets and layers.
 use access::limits::MAX_PORT;
 use access::rights::Rights;
-use bitmap::is_set;
-use bitmap::set_flag;
 use sound_objects::bucket_of;
 use tables::rows::DIRECTORY;
 use tables::rows::PATH_RULE;
 use tables::rows::PORT_RULE;
-use tables::rows::RULE_WIDTH;
 ghost use mathlib.Core.Path.{_≡_};
 ghost use mathlib.Core.Bool.{true};
 ghost use Prim.Native.Nat.{_+_, _*_, _<_};
 ghost use lib.ListN.{length};
 ghost use Rattle.access.specs.Limits.{maxEntries};
-ghost use Rattle.tables.specs.Tables.{entryWidth, ruleType, ruleKey};
+ghost use Rattle.tables.specs.Tables.{entryWidth};
 ghost use Rattle.sound_objects.specs.Objects.{Indexed};
-ghost use Rattle.sound_rules.specs.Flags.{flagOf, keyIs, Marked};
-ghost use Rattle.sound_rules.specs.Rules.{isFileOf, fileObject, rightsFit, pathSound, portSound, cellsSound, newKey, ruleCount, rulesSound, masksKnown};
+ghost use Rattle.sound_rules.specs.Rules.{isFileOf, fileObject, rightsFit, pathSound, portSound, cellsSound, masksKnown};
 
 // Entry `e` is live, no directory, and of the object.
 fn is_file_of(entries: &[u64], object: u64, e: usize) -> bool
@@ -95,7 +91,7 @@ fn port_sound(net: Rights, port: u64, rights: Rights) -> bool
     net.contains(rights)
 }
 
-fn cells_sound(
+pub fn cells_sound(
     entries: &[u64],
     heads: &[u64],
     links: &[u64],
@@ -116,82 +112,6 @@ fn cells_sound(
         return port_sound(net, key, rights);
     }
     false
-}
-
-// Rule `j` has the type and the key.
-fn same_key(rules: &[u64], j: usize, ty: u64, key: u64) -> bool
-    requires { ⌜ j < ruleCount (now rules) ⌝ }
-    ensures { λ r. ⌜ r ≡ keyIs (now (rules .entry)) j ty key ⌝ }
-{
-    if key != rules[3 * j + 1] {
-        return false;
-    }
-    ty == rules[3 * j]
-}
-
-// No rule before rule `i` has its type and its key.
-fn new_key(rules: &[u64], i: usize, ty: u64, key: u64) -> bool
-    requires { ⌜ (i < ruleCount (now rules)) × ((ty ≡ ruleType (now rules) i) × (key ≡ ruleKey (now rules) i)) ⌝ }
-    ensures { λ r. ⌜ r ≡ newKey (now (rules .entry)) i ⌝ }
-{
-    let mut j = 0;
-    while j < i {
-        if same_key(rules, j, ty, key) {
-            return false;
-        }
-        j += 1;
-    }
-    true
-}
-
-fn flag_of(key: u64) -> usize
-    ensures { λ r. ⌜ r ≡ flagOf key ⌝ }
-{
-    (key % 1024) as usize
-}
-
-// The key of rule `i` is new: a clear flag tells so, and gets set; where it is set already, the rules before decide.
-fn take_key(rules: &[u64], seen: &mut [u64], i: usize, ty: u64, key: u64) -> bool
-    requires { ⌜ (i < ruleCount (now rules)) × ((ty ≡ ruleType (now rules) i) × (key ≡ ruleKey (now rules) i)) × ((length (now seen) ≡ 16) × Marked (now rules) (now seen) i) ⌝ }
-    ensures { λ r. ⌜ (r ≡ newKey (now (rules .entry)) i) × (r ≡ true → Marked (now (rules .entry)) (now (seen .exit)) (i + 1)) ⌝ }
-{
-    let b = flag_of(key);
-    if is_set(seen, b) {
-        return new_key(rules, i, ty, key);
-    }
-    set_flag(seen, b);
-    true
-}
-
-// Every rule of the cells is sound, and no two are for the same object or port.
-pub fn rules_sound(
-    entries: &[u64],
-    heads: &[u64],
-    links: &[u64],
-    next: u64,
-    fs: Rights,
-    net: Rights,
-    rules: &[u64],
-) -> bool
-    requires { ⌜ (length (now entries) ≡ entryWidth * maxEntries) × Indexed (now entries) (now heads) (now links) ⌝ }
-    ensures { λ r. ⌜ r ≡ rulesSound (now (entries .entry)) next (fs .0) (net .0) (now (rules .entry)) ⌝ }
-{
-    let n = rules.len() / RULE_WIDTH;
-    let mut seen = [0u64; 16];
-    let mut i = 0;
-    while i < n {
-        let ty = rules[3 * i];
-        let key = rules[3 * i + 1];
-        let rights = Rights(rules[3 * i + 2]);
-        if !cells_sound(entries, heads, links, next, fs, net, ty, key, rights) {
-            return false;
-        }
-        if !take_key(rules, &mut seen, i, ty, key) {
-            return false;
-        }
-        i += 1;
-    }
-    true
 }
 
 // The level knows every right of the masks.

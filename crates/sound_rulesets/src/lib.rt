@@ -2,8 +2,8 @@
 use access::limits::MAX_RULES;
 use access::limits::MAX_RULESETS;
 use access::rights::Rights;
+use sound_keys::rules_sound;
 use sound_rules::masks_known;
-use sound_rules::rules_sound;
 use sound_zero::all_zero;
 use tables::rows::RULE_WIDTH;
 use tables::rows::RULESET_HEAD;

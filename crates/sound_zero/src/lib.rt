@@ -28,5 +28,5 @@ pub fn all_zero(t: &[u64]) -> bool
         }
         i += 8;
     }
-    tables::cells::all_zero(&t[i..n])
+    cells::all_zero(&t[i..n])
 }

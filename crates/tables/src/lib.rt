@@ -1,4 +1,2 @@
-// The tables: total readers and writers of their cells, and fresh tables.
-pub mod cells;
-pub mod fresh;
+// The tables: the sizes of their rows, and total readers of their cells by name.
 pub mod rows;

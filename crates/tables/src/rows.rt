@@ -1,6 +1,4 @@
 // The cells of each table by name, and the sizes of the rows.
-use crate::cells::read;
-use crate::cells::row_read;
 use access::limits::MAX_ENTRIES;
 use access::limits::MAX_LAYERS;
 use access::limits::MAX_POOL;
@@ -8,6 +6,8 @@ use access::limits::MAX_RULES;
 use access::limits::MAX_RULESETS;
 use access::limits::MAX_THREADS;
 use access::rights::Rights;
+use cells::read;
+use cells::row_read;
 ghost use mathlib.Core.Path.{_≡_};
 ghost use Prim.Native.Nat.{_<_};
 ghost use Rattle.laws.specs.Cells.{cell};

@@ -9,6 +9,7 @@ use Rattle.tables.specs.Fresh.{freshTables}
 use Rattle.sound.specs.Sound.{sound}
 use Rattle.sound.proofs.Calls.{kept-call}
 use Rattle.sound.proofs.Fresh.{fresh-sound}
+use Rattle.domain.specs.Layer.{layerRead}
 use Rattle.fs_access.specs.Access.{accessCall}
 use Rattle.net.specs.Port.{portCall}
 use Rattle.kept_rulesets.proofs.Create.{kept-created, kept-closed}
@@ -21,7 +22,7 @@ use Rattle.kept_tree.proofs.Move.{kept-renamed, kept-exchanged}
 use Rattle.theorems.specs.Calls.{Call, create-ruleset, close-ruleset, add-path-rule, add-port-rule, restrict, layer-rules, clone, set-no-new-privs, set-admin, access, port, create, remove, link, rename, exchange, outcomeOf, after, afterAll}
 
 pub kept : (T : Tables) (c : Call) → sound T ≡ true → sound (after T c) ≡ true
-unfolding outcomeOf accessCall portCall
+unfolding outcomeOf layerRead accessCall portCall
 kept T (create-ruleset bs flags) h = kept-created T bs flags h
 kept T (close-ruleset r) h = kept-closed T r h
 kept T (add-path-rule r e rights flags) h = kept-path-added T r e rights flags h

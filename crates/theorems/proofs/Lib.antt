@@ -11,3 +11,4 @@ pub mod Steps
 pub mod Denied
 pub mod Assembly
 pub mod Demand3
+pub mod Granted

@@ -31,6 +31,7 @@ use Rattle.ruleset.specs.Create.{createDone, created, closeDone, closed}
 use Rattle.rule.specs.Rule.{addDone, pathAdded, portAdded}
 use Rattle.domain_restrict.specs.Restrict.{restrictForm, isDeep, restrictRoom, restrictChecks, counted, restricted, restrictDone, restrictCall}
 use Rattle.domain.specs.Threads.{freeThread, cloneChecks, copiedThread, cloneDone, cloned, markDone, privsSet, adminSet}
+use Rattle.domain.specs.Layer.{layerRead}
 use Rattle.domain_restrict.proofs.Room.{roomy}
 use Rattle.fs_access.specs.Access.{accessCall}
 use Rattle.net.specs.Port.{portCall}
@@ -245,7 +246,7 @@ create-stays T d k = stays-alone T (treeCreated T d k) (getD-set-other (T .syste
 
 -- ---- every call
 pub stays : (T : Tables) (c : Call) → Stays T (after T c)
-unfolding outcomeOf created createDone closed closeDone pathAdded portAdded addDone restrictCall restrictDone cloned privsSet adminSet accessCall portCall treeCreate treeRemove treeLink treeRename treeExchange
+unfolding outcomeOf created createDone closed closeDone pathAdded portAdded addDone restrictCall restrictDone cloned privsSet adminSet layerRead accessCall portCall treeCreate treeRemove treeLink treeRename treeExchange
 stays T (create-ruleset bs flags) = call-stays T _ _ (stays-self T) (λ h z. stays-alone T _ refl refl refl refl)
 stays T (close-ruleset r) = call-stays T _ _ (stays-self T) (λ h z. stays-alone T _ refl refl refl refl)
 stays T (add-path-rule r e rights flags) = call-stays T _ _ (stays-self T) (λ h z. stays-alone T _ refl refl refl refl)
@@ -265,7 +266,7 @@ stays T (exchange t s d x) = call-stays T _ _ (stays-self T) (λ h z. stays-alon
 
 -- a refusal "changes no cell"
 pub refused-same : (T : Tables) (c : Call) (e : Errno) → reply T c ≡ Refused e → after T c ≡ T
-unfolding outcomeOf created createDone closed closeDone pathAdded portAdded addDone restrictCall restrictDone cloned cloneDone privsSet adminSet markDone accessCall portCall treeCreate treeRemove treeLink treeRename treeExchange
+unfolding outcomeOf created createDone closed closeDone pathAdded portAdded addDone restrictCall restrictDone cloned cloneDone privsSet adminSet markDone layerRead accessCall portCall treeCreate treeRemove treeLink treeRename treeExchange
 refused-same T (create-ruleset bs flags) e h = call-same T _ _ _ e refl h
 refused-same T (close-ruleset r) e h = call-same T _ _ _ e refl h
 refused-same T (add-path-rule r x rights flags) e h = call-same T _ _ _ e refl h
@@ -290,20 +291,6 @@ domain-used T t l h v m =
     let S = facts T h in
     chain-below (T .layers) (layersUsed (T .system)) (λ l h. S .layers .each l h .parent-smaller) maxDomain (youngest (T .threads) t) l
     (S .threads .live t (live-below (T .threads) t (S .lengths .threads) v) v .in-use) m
-
--- ---- the same, one fact each
-module _ (T : Tables) (c : Call) where
-  pub used-grows : layersUsed (T .system) ≤ layersUsed ((after T c) .system)
-  used-grows = stays T c .used
-
-  pub layers-kept : (l : ℕ) → l < layersUsed (T .system) → layerAt ((after T c) .layers) ((after T c) .pool) l ≡ layerAt (T .layers) (T .pool) l
-  layers-kept = stays T c .layers
-
-  pub thread-lives : (t : ℕ) → threadLive (T .threads) t ≡ true → threadLive ((after T c) .threads) t ≡ true
-  thread-lives = stays T c .lives
-
-  pub domain-grows : (t : ℕ) → threadLive (T .threads) t ≡ true → Grown (domainOf T t) (domainOf (after T c) t)
-  domain-grows = stays T c .grown
 
 -- ---- a list of calls
 stays-on : (T T1 T2 : Tables) → Stays T T1 → Stays T1 T2 → Stays T T2

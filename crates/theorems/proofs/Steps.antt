@@ -27,6 +27,7 @@ use Rattle.net.specs.Port.{portCall}
 use Rattle.ruleset.specs.Create.{created, createDone, closed, closeDone}
 use Rattle.rule.specs.Rule.{pathAdded, portAdded, addDone}
 use Rattle.domain_restrict.specs.Restrict.{restrictCall, restrictDone, restricted}
+use Rattle.domain.specs.Layer.{layerRead}
 use Rattle.domain.specs.Threads.{cloned, cloneDone, privsSet, adminSet, markDone}
 use Rattle.tree.specs.declared.Replaced.{Replaced}
 use Rattle.tree.specs.declared.Replaced.the-variants.{None, Entry}
@@ -192,7 +193,7 @@ module _ (T : Tables) (s : sound T ≡ true) where
       none false = refl
 
   pub step : (c : Call) → Step T (caller c) ((after T c) .entries) (frees T c)
-  unfolding outcomeOf caller wouldFree frees created closed createDone closeDone pathAdded portAdded addDone restrictCall restrictDone restricted cloned cloneDone privsSet adminSet markDone accessCall portCall
+  unfolding outcomeOf caller wouldFree frees created closed createDone closeDone pathAdded portAdded addDone restrictCall restrictDone restricted cloned cloneDone privsSet adminSet markDone layerRead accessCall portCall
   step (create-ruleset bs flags) = other-step 0 _ _ refl
   step (close-ruleset r) = other-step 0 _ _ refl
   step (add-path-rule r e rights flags) = other-step 0 _ _ refl

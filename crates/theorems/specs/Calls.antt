@@ -3,18 +3,15 @@ use mathlib.Core.Bool.{Bool, true, false, not, _&&_}
 use mathlib.Core.List.{List, [], _∷_}
 use Prim.Native.Nat.{ℕ}
 use lib.Dec.{eqb}
-use Rattle.laws.specs.Refusals.{_⇒_}
-use Rattle.access.specs.Errno.{EBADF}
 use Rattle.access.specs.declared.errno.Reply.{Reply}
 use Rattle.access.specs.declared.errno.Reply.the-variants.{Done, Refused}
 use Rattle.tables.specs.Tables.{Tables}
-use Rattle.tables.specs.Layers.{layerInUse}
-use Rattle.tables.specs.Outcome.{Outcome, outcome}
-use Rattle.sound.specs.Call.{call}
+use Rattle.tables.specs.Outcome.{Outcome}
 use Rattle.ruleset.specs.Create.{created, closed}
 use Rattle.rule.specs.Rule.{pathAdded, portAdded}
 use Rattle.domain_restrict.specs.Restrict.{restrictCall}
 use Rattle.domain.specs.Threads.{cloned, privsSet, adminSet}
+use Rattle.domain.specs.Layer.{layerRead}
 use Rattle.fs_access.specs.Access.{accessCall}
 use Rattle.net.specs.Port.{portCall}
 use Rattle.tree.specs.declared.Replaced.{Replaced}
@@ -62,7 +59,7 @@ outcomeOf T (close-ruleset r) = closed T r
 outcomeOf T (add-path-rule r e rights flags) = pathAdded T r e rights flags
 outcomeOf T (add-port-rule r p rights flags) = portAdded T r p rights flags
 outcomeOf T (restrict t r flags) = restrictCall T t r flags
-outcomeOf T (layer-rules l) = call T (not (layerInUse (T .system) l) ⇒ EBADF ∷ []) (outcome (Done 0) T)
+outcomeOf T (layer-rules l) = layerRead T l
 outcomeOf T (clone t) = cloned T t
 outcomeOf T (set-no-new-privs t) = privsSet T t
 outcomeOf T (set-admin t on) = adminSet T t on

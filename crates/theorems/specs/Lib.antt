@@ -1,3 +1,4 @@
--- Every call in one type, and demand 3.
+-- Every call in one type, demand 3, and how its rights are tied to answers.
 pub mod Calls
 pub mod Claim
+pub mod Granted

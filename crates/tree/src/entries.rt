@@ -1,6 +1,6 @@
 // Tests of entries, and changes of their rows.
 use access::limits::MAX_ENTRIES;
-use tables::cells::row_write;
+use cells::row_write;
 use tables::rows::ENTRY_WIDTH;
 use tables::rows::entry_live;
 use tables::rows::is_dir;

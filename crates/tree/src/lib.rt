@@ -1,6 +1,5 @@
-// What the calls that change the tree share: tests of entries, changes of rows, and the moves that the verdict judges.
+// What the calls that change the tree share: tests of entries and changes of rows.
 pub mod entries;
-pub mod moves;
 
 // The entry that a rename replaces, if it replaces one.
 pub enum Replaced {

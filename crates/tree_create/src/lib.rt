@@ -1,3 +1,2 @@
-// Create and remove entries.
+// Create entries.
 pub mod create;
-pub mod remove;

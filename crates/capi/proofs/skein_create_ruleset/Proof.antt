@@ -1,4 +1,5 @@
 -- Assumes nothing.
+use mathlib.Core.Path.{refl}
 use borrow.Author.Needs.{needs}
 use Rattle.capi.proofs.Answers.{answers}
 use Rattle.capi.proofs.skein_create_ruleset.Statement.{statement}
@@ -11,4 +12,4 @@ skein-create-ruleset-spec =
     (λ c κs. tt)
     (λ c κs. tt)
     (λ c. search needs)
-    (λ c. answers _ _ (c .before .before .before .create-ruleset .ensures) (c .number .ensures)))
+    (λ c. (answers _ _ (c .before .before .before .create-ruleset .ensures .0) (c .number .ensures), refl)))

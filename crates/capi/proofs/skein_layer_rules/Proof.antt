@@ -2,6 +2,7 @@
 use mathlib.Core.Path.{ap, _∙_}
 use borrow.Author.Needs.{needs}
 use Rattle.capi.specs.Codes.{codeOf, spanFrom}
+use Rattle.capi.proofs.Answers.{layer-number}
 use Rattle.capi.proofs.skein_layer_rules.Statement.{statement}
 use Rattle.capi.proofs.skein_layer_rules.Tie as tie
 
@@ -21,4 +22,4 @@ skein-layer-rules-spec =
     let v = w .before .before .before .before in
     let s = v .before .before in
     let l = s .before .layer-rules .ensures in
-    (c .code-of .ensures ∙ ap codeOf (l .1), rw (w .write2 .ensures, v .write .ensures, s .span-from .ensures, l .1, l .0))))
+    ((c .code-of .ensures ∙ ap codeOf (l .1 .0) ∙ layer-number _ _, l .1 .1), rw (w .write2 .ensures, v .write .ensures, s .span-from .ensures, l .1 .0, l .0))))

@@ -1,0 +1,21 @@
+-- Assumes nothing.
+use borrow.Author.Needs.{needs}
+use Rattle.sound.proofs.Calls.{call-unsound, call-passes}
+use Rattle.tree.specs.Exchange.{treeExchange}
+use Rattle.broker_moves.proofs.exchange.Statement.{statement}
+use Rattle.broker_moves.proofs.exchange.Tie as tie
+
+pub exchange-spec : {M : Type 1} → statement M
+unfolding treeExchange
+exchange-spec =
+    tie.close
+    (tie.spec
+    (λ c κs. tt)
+    (λ c. search needs)
+    (λ c. call-unsound _ _ _ (c .before .is-sound .ensures) (c .if1 .taken))
+    (λ c κs. tt)
+    (λ c. search needs)
+    (λ c.
+    let d = c .before .before in
+    let t = d .before .before in
+    call-passes _ _ _ (t .before .is-sound .ensures) (t .if1 .left) (d .exchange .ensures)))

@@ -1,0 +1,21 @@
+-- Assumes nothing.
+use borrow.Author.Needs.{needs}
+use Rattle.sound.proofs.Calls.{call-unsound, call-passes}
+use Rattle.tree.specs.Link.{treeLink}
+use Rattle.broker_moves.proofs.link.Statement.{statement}
+use Rattle.broker_moves.proofs.link.Tie as tie
+
+pub link-spec : {M : Type 1} → statement M
+unfolding treeLink
+link-spec =
+    tie.close
+    (tie.spec
+    (λ c κs. tt)
+    (λ c. search needs)
+    (λ c. call-unsound _ _ _ (c .before .is-sound .ensures) (c .if1 .taken))
+    (λ c κs. tt)
+    (λ c. search needs)
+    (λ c.
+    let d = c .before .before in
+    let t = d .before .before in
+    call-passes _ _ _ (t .before .is-sound .ensures) (t .if1 .left) (d .link .ensures)))

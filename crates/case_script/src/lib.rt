@@ -1,3 +1,0 @@
-// The words of a case: its text, and the writes to the tables.
-pub mod text;
-pub mod writes;

@@ -1,0 +1,39 @@
+-- The invariant: the rest of the chain decides. Assumes nothing.
+use mathlib.Core.Path.{_≡_, refl}
+use native.Mathlib.Omega.{arith}
+use Rattle.laws.specs.Tests.{any}
+use Rattle.access.specs.Limits.{maxDomain}
+use Rattle.judge.specs.Domain.{chain}
+use Rattle.judge.proofs.Chains.{walk-end, walk-none, walk-hit, walk-up}
+use Rattle.fs.specs.Move.{layerDenies}
+use Rattle.fs_verdict.proofs.domain_denies.Statement.{statement}
+use Rattle.fs_verdict.proofs.domain_denies.Tie as tie
+
+abbrev Inv-loop : tie.InvT-loop
+Inv-loop entries layers pool y m at₀ n₀ at n = any (layerDenies entries layers pool m) (chain layers maxDomain y) ≡ any (layerDenies entries layers pool m) (chain layers n at)
+
+abbrev μ-loop : tie.MeasureT-loop
+μ-loop entries layers pool y m at₀ n₀ at n = n
+
+pub domain-denies-spec : {M : Type 1} → statement M
+domain-denies-spec =
+    tie.close
+    (tie.spec Inv-loop μ-loop
+    (λ c. refl)
+    (λ c. let l = c .before .before .loop in walk-end _ _ (l .n) (l .at) (l .inv) (c .if1 .taken))
+    (λ c. omega arith)
+    (λ c κs. tt)
+    (λ c.
+    let b = c .before .before in
+    let l = b .before .before .loop in
+    walk-hit _ _ (l .n) (l .at) (l .inv) (b .if1 .left) (omega arith) (c .before .layer-denies .ensures) (c .if2 .taken))
+    (λ c. omega arith)
+    (λ c κs. tt)
+    (λ c. omega arith)
+    (λ c. omega arith)
+    (λ c.
+    let d = c .before in
+    let b = d .before .before in
+    let l = b .before .before .loop in
+    walk-up _ _ (l .n) (l .at) (l .inv) (b .if1 .left) (omega arith) (d .before .layer-denies .ensures) (d .if2 .left) (c .row-read .ensures))
+    (λ c. let l = c .before .loop in walk-none _ _ (l .n) (l .at) (l .inv) (omega arith)))

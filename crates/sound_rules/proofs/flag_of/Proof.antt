@@ -1,9 +1,0 @@
--- Assumes nothing.
-use mathlib.Core.Path.{refl}
-use Rattle.sound_rules.specs.Flags.{flagOf}
-use Rattle.sound_rules.proofs.flag_of.Statement.{statement}
-use Rattle.sound_rules.proofs.flag_of.Tie as tie
-
-pub flag-of-spec : {M : Type 1} → statement M
-unfolding flagOf
-flag-of-spec = tie.close (tie.spec (λ c. refl))

@@ -1,6 +1,0 @@
--- Assumes nothing.
-use Rattle.tree.proofs.moves.rename_move.Statement.{statement}
-use Rattle.tree.proofs.moves.rename_move.Tie as tie
-
-pub rename-move-spec : {M : Type 1} → statement M
-rename-move-spec = tie.close (tie.spec (λ c κs. tt) (λ c κs. tt) (λ c. rw (← c .before .replaced-kind .ensures) (c .move-of .ensures)))
