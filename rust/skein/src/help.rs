@@ -46,10 +46,11 @@ Format (in full: docs/SCENARIO.md)
     add_port_rule RULESET PORT RIGHTS [FLAGS]   port THREAD PORT RIGHTS
     restrict THREAD RULESET [FLAGS]             clone THREAD
     layer_rules LAYER                           set_no_new_privs THREAD
-    poke TABLE CELL VALUE                       set_admin THREAD ON
+    poke TABLE CELL VALUE [COUNT STEP RISE]     set_admin THREAD ON
 
   KIND: regular directory character block fifo socket symlink, or a number. ON: on, off or a number.
-  TABLE: system entries rulesets layers pool threads.
+  TABLE: system entries rulesets layers pool threads. COUNT, STEP and RISE make a run of writes: how
+  many, how many cells from one to the next, and how much each value is above the last.
 
 Rights: a number, none, or names joined by + in any letter case
   files   execute write_file read_file read_dir remove_dir remove_file make_char make_dir make_reg

@@ -95,7 +95,7 @@ impl Player {
             Call::LayerRules { layer } => self.layer_rules(*layer, &mut rules),
             Call::Thread { thread, call } => self.thread_call(thread, call)?,
             Call::Tree { thread, call } => self.tree_call(thread, call)?,
-            Call::Poke { table, cell, value } => self.poke(*table, *cell, *value),
+            Call::Poke { table, writes } => self.poke(*table, writes),
         };
         self.names.forget_gone(&self.tables);
         if let (Answer::New(number), Some((space, name))) = (answer, &statement.binds) {
@@ -211,10 +211,12 @@ impl Player {
         Ok((self.entry(&moved.source)?, self.entry(&moved.directory)?))
     }
 
-    fn poke(&mut self, table: Table, cell: usize, value: u64) -> Answer {
+    fn poke(&mut self, table: Table, writes: &[(usize, u64)]) -> Answer {
         let mut cells = self.tables.cells().clone();
-        if let Some(cell) = cells.table_mut(table).get_mut(cell) {
-            *cell = value;
+        for (cell, value) in writes {
+            if let Some(cell) = cells.table_mut(table).get_mut(*cell) {
+                *cell = *value;
+            }
         }
         self.tables = Tables::from_cells(cells);
         Answer::Done

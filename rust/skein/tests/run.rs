@@ -107,6 +107,37 @@ layer_rules 1
 }
 
 #[test]
+fn a_layer_has_the_rules_of_its_ruleset() {
+    // Layer 0 has a rule whose rights were joined, layer 1 none; a rule added later is in neither.
+    let text = "\
+create_ruleset fs=6 -> r => new 0
+set_admin main on => 0
+add_path_rule r root 2 => 0
+add_path_rule r root 4 => 0
+restrict main r => 0
+create main root directory -> d => new 1
+add_path_rule r d 4 => 0
+create_ruleset fs=1 -> empty => new 1
+restrict main empty => 0
+layer_rules 0 => 0
+layer_rules 1 => 0
+layer_rules 2 => EBADF
+";
+    let ran = skein_with(&["run", "--json", "-"], text.as_bytes());
+    assert_eq!(ran.code, 0, "{}", ran.out);
+    let document = json(&ran.out);
+    let [.., joined, none, unused] = document.at("calls").list() else {
+        panic!("three calls");
+    };
+    let [rule] = joined.at("rules").list() else {
+        panic!("one rule");
+    };
+    assert_eq!(rule.at("object").number(), 0);
+    assert_eq!(rule.at("rights").texts(), ["write_file", "read_file"]);
+    assert!(none.at("rules").list().is_empty() && unused.at("rules").list().is_empty());
+}
+
+#[test]
 fn json_has_the_documented_fields() {
     let text = "create main root fifo -> p => new 1\nremove main p\nremove main p => 0\n";
     let ran = skein_with(&["run", "-", "--json"], text.as_bytes());
@@ -171,6 +202,34 @@ fn the_last_free_entry_can_be_taken_and_no_more() {
     text.push_str("clone main -> t\nremove t 700 => 0\nclone t\ncreate main root 1 => new 700\n");
     let ran = skein_with(&["run", "-"], text.as_bytes());
     assert_eq!(ran.code, 0, "{}", ran.out);
+}
+
+#[test]
+fn a_run_of_pokes_writes_each_cell() {
+    // Three directories, each in the one before.
+    let run = "\
+poke entries 3 2 3 3 0 => 0
+poke entries 4 0 3 3 1 => 0
+poke entries 5 1 3 3 1 => 0
+poke system 1 4 => 0
+";
+    let calls = "\
+create main root directory => new 1
+create main 1 directory => new 2
+create main 2 directory => new 3
+";
+    let [left, made] = [run, calls].map(|text| {
+        let ran = skein_with(&["explain", "--json", "-"], text.as_bytes());
+        assert_eq!(ran.code, 0, "{}", ran.err);
+        ran.out
+    });
+    assert_eq!(left, made);
+    let beyond = skein_with(&["run", "-"], b"clone main\npoke threads 0 0 9 4 0\n");
+    let message = "-:2: found cell 32; expected a cell of threads, below 32\n";
+    assert_eq!(
+        (beyond.code, beyond.out.as_str(), beyond.err.as_str()),
+        (2, "", message)
+    );
 }
 
 #[test]

@@ -22,8 +22,8 @@ pub enum Call {
     },
     Poke {
         table: Table,
-        cell: usize,
-        value: u64,
+        /// Cells of the table, each with its new value.
+        writes: Vec<(usize, u64)>,
     },
 }
 

@@ -1,10 +1,11 @@
 //! How each call is written.
-use super::arguments::{number, Arguments};
+use super::arguments::Arguments;
 use super::attribute::create_ruleset;
 use super::call::{Call, Move, RulesetCall, ThreadCall, TreeCall};
 use super::names::Space;
+use super::poke::poke;
 use super::Bad;
-use skeinrabbit::{parse_number, Layer, Level, Table};
+use skeinrabbit::{parse_number, Layer, Level};
 
 /// A call as it is written.
 pub struct Form {
@@ -51,7 +52,7 @@ static FORMS: [Form; 18] = [
     form("link THREAD SOURCE DIRECTORY", Some(Space::Entry), link),
     form("rename THREAD SOURCE DIRECTORY [ENTRY]", None, rename),
     form("exchange THREAD SOURCE DIRECTORY ENTRY", None, exchange),
-    form("poke TABLE CELL VALUE", None, poke),
+    form("poke TABLE CELL VALUE [COUNT STEP RISE]", None, poke),
 ];
 
 impl Form {
@@ -201,21 +202,4 @@ fn exchange(arguments: &mut Arguments) -> Result<Call, Bad> {
     let thread = arguments.thread()?;
     let call = TreeCall::Exchange(moved(arguments)?, arguments.entry()?);
     Ok(Call::Tree { thread, call })
-}
-
-fn poke(arguments: &mut Arguments) -> Result<Call, Bad> {
-    let table: Table = arguments.value()?;
-    let word = arguments.word()?;
-    let within = |cell: &usize| *cell < table.size();
-    let cell = usize::try_from(number(word, "a cell")?)
-        .ok()
-        .filter(within)
-        .ok_or_else(|| {
-            Bad::word(
-                word,
-                format!("a cell of {}, below {}", table.name(), table.size()),
-            )
-        })?;
-    let value = arguments.number("a value")?;
-    Ok(Call::Poke { table, cell, value })
 }

@@ -5,6 +5,7 @@ mod attribute;
 mod call;
 mod forms;
 mod names;
+mod poke;
 
 pub use answer::{Answer, Expected};
 pub use call::{Call, Masks, Move, RulesetBytes, RulesetCall, ThreadCall, TreeCall};

@@ -148,8 +148,7 @@ fn the_admin_mark_is_a_word_or_a_number() {
 fn pokes_stay_in_their_table() {
     let poke = Call::Poke {
         table: Table::Threads,
-        cell: 31,
-        value: u64::MAX,
+        writes: vec![(31, u64::MAX)],
     };
     assert_eq!(statement("poke threads 31 0xffffffffffffffff").call, poke);
     for line in [
@@ -159,6 +158,68 @@ fn pokes_stay_in_their_table() {
         "poke pool 0",
     ] {
         assert_eq!(bad(line).len(), 1, "{line}");
+    }
+}
+
+#[test]
+fn a_poke_may_write_a_run() {
+    let writes = |line: &str| match statement(line).call {
+        Call::Poke { writes, .. } => writes,
+        call => panic!("{call:?}"),
+    };
+    let run = writes("poke threads 3 7 3 4 2");
+    assert_eq!(run, [(3, 7), (7, 9), (11, 11)]);
+    assert_eq!(writes("poke system 3 5 1 0xffffffffffffffff 9"), [(3, 5)]);
+    // As many writes as there are cells, up to the last cell and the last number.
+    assert_eq!(writes("poke threads 0 1 32 1 0").len(), 32);
+    let last = writes("poke system 0 18446744073709551612 4 1 1").pop();
+    assert_eq!(last, Some((3, u64::MAX)));
+}
+
+#[test]
+fn a_run_stays_in_its_table_and_below_the_last_number() {
+    let cell = "a cell of system, below 4";
+    for (line, found, expected) in [
+        ("poke system 4 0 1 0 0", "cell 4", cell),
+        ("poke system 0 0 3 2 0", "cell 4", cell),
+        (
+            "poke system 1 0 2 0xffffffffffffffff 0",
+            "2^64 or more",
+            cell,
+        ),
+        (
+            "poke system 1 0 3 0xffffffffffffffff 0",
+            "2^64 or more",
+            cell,
+        ),
+        (
+            "poke system 0 0xffffffffffffffff 2 1 1",
+            "2^64 or more",
+            "values below 2^64",
+        ),
+        (
+            "poke system 0 0 3 1 0xffffffffffffffff",
+            "2^64 or more",
+            "values below 2^64",
+        ),
+        ("poke system 0 0 0 1 0", "`0`", "a count from 1 to 4"),
+        ("poke system 0 0 5 0 0", "`5`", "a count from 1 to 4"),
+        (
+            "poke system 0 0 0xffffffffffffffff 0 0",
+            "`0xffffffffffffffff`",
+            "a count from 1 to 4",
+        ),
+        ("poke system 0 0 two 1 0", "`two`", "a count: a number"),
+        ("poke system 0 0 2", "too few words", "[COUNT STEP RISE]`"),
+        ("poke system 0 0 2 1", "too few words", "[COUNT STEP RISE]`"),
+        ("poke system 0 0 2 1 0 9", "`9`", "no more than `poke"),
+    ] {
+        let lines = bad(line);
+        let [(1, was, wanted)] = lines.as_slice() else {
+            panic!("{line}: {lines:?}");
+        };
+        assert_eq!(was, found, "{line}");
+        assert!(wanted.contains(expected), "{line}: {wanted}");
     }
 }
 
@@ -390,6 +451,7 @@ const CALLS: &[(&str, usize)] = &[
     ("rename", 4),
     ("exchange", 4),
     ("poke threads", 2),
+    ("poke threads", 5),
 ];
 const NUMBERS: &[&str] = &[
     "0",

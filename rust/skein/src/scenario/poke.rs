@@ -1,0 +1,73 @@
+//! The words of `poke`.
+use super::arguments::{number, Arguments};
+use super::call::Call;
+use super::Bad;
+use skeinrabbit::Table;
+
+/// Reads the words after the call's name.
+pub fn poke(arguments: &mut Arguments) -> Result<Call, Bad> {
+    let table = arguments.value()?;
+    let cell = arguments.number("a cell")?;
+    let value = arguments.number("a value")?;
+    let run = Run::read(arguments, table)?;
+    let write = |i| {
+        Ok((
+            cell_of(table, nth(cell, run.step, i))?,
+            value_of(nth(value, run.rise, i))?,
+        ))
+    };
+    let writes = (0..run.count).map(write).collect::<Result<_, Bad>>()?;
+    Ok(Call::Poke { table, writes })
+}
+
+/// How many writes there are, and by how much cell and value grow from one to the next.
+struct Run {
+    count: u64,
+    step: u64,
+    rise: u64,
+}
+
+impl Run {
+    /// Reads the last three words; without them there is one write.
+    fn read(arguments: &mut Arguments, table: Table) -> Result<Run, Bad> {
+        let Some(word) = arguments.next() else {
+            let (count, step, rise) = (1, 0, 0);
+            return Ok(Run { count, step, rise });
+        };
+        Ok(Run {
+            count: count(word, table)?,
+            step: arguments.number("a step")?,
+            rise: arguments.number("a rise")?,
+        })
+    }
+}
+
+/// A number of writes: no more than the table has cells, so that no line takes long.
+fn count(word: &str, table: Table) -> Result<u64, Bad> {
+    let count = number(word, "a count")?;
+    let most = table.size();
+    match usize::try_from(count) {
+        Ok(writes) if (1..=most).contains(&writes) => Ok(count),
+        _ => Err(Bad::word(word, format!("a count from 1 to {most}"))),
+    }
+}
+
+/// What `first` is after it grew `i` times; none from 2^64 on.
+fn nth(first: u64, growth: u64, i: u64) -> Option<u64> {
+    growth.checked_mul(i)?.checked_add(first)
+}
+
+fn cell_of(table: Table, number: Option<u64>) -> Result<usize, Bad> {
+    let cell = number.and_then(|number| usize::try_from(number).ok());
+    cell.filter(|cell| *cell < table.size()).ok_or_else(|| {
+        let found = number.map_or(TOO_LARGE.to_owned(), |number| format!("cell {number}"));
+        let expected = format!("a cell of {}, below {}", table.name(), table.size());
+        Bad::new(found, expected)
+    })
+}
+
+fn value_of(number: Option<u64>) -> Result<u64, Bad> {
+    number.ok_or_else(|| Bad::new(TOO_LARGE, "values below 2^64"))
+}
+
+const TOO_LARGE: &str = "2^64 or more";
