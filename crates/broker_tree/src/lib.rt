@@ -1,47 +1,4 @@
 // The entry points of the calls that change the tree: each tests the tables first and answers EIO if they are not sound, then
 // does the call. A refusal changes no cell.
-use access::errno::Errno;
-use access::errno::Reply;
-ghost use mathlib.Core.Path.{_≡_};
-ghost use Rattle.tables.specs.Tables.{before, after};
-ghost use Rattle.tables.specs.Outcome.{outcome};
-ghost use Rattle.tree.specs.Create.{treeCreate, treeRemove};
-
-// Makes an entry of a kind in a directory: EIO, ESRCH, ENOENT, ENOTDIR, EINVAL, EACCES, ENOSPC. Answers its number.
-pub fn create(
-    system: &mut [u64],
-    entries: &mut [u64],
-    rulesets: &[u64],
-    layers: &[u64],
-    pool: &[u64],
-    threads: &[u64],
-    t: u64,
-    d: u64,
-    k: u64,
-) -> Reply
-    ensures { λ answer. ⌜ outcome answer (after system entries rulesets layers pool threads) ≡ treeCreate (before system entries rulesets layers pool threads) t d k ⌝ }
-{
-    if !sound::is_sound(system, entries, rulesets, layers, pool, threads) {
-        return Reply::Refused(Errno::EIO);
-    }
-    tree_create::create::create(system, entries, rulesets, layers, pool, threads, t, d, k)
-}
-
-// Removes an entry: EIO, ESRCH, ENOENT, EBUSY, EACCES, ENOTEMPTY.
-pub fn remove(
-    system: &[u64],
-    entries: &mut [u64],
-    rulesets: &[u64],
-    layers: &[u64],
-    pool: &[u64],
-    threads: &[u64],
-    t: u64,
-    e: u64,
-) -> Reply
-    ensures { λ answer. ⌜ outcome answer (after system entries rulesets layers pool threads) ≡ treeRemove (before system entries rulesets layers pool threads) t e ⌝ }
-{
-    if !sound::is_sound(system, entries, rulesets, layers, pool, threads) {
-        return Reply::Refused(Errno::EIO);
-    }
-    tree_remove::remove(system, entries, rulesets, layers, pool, threads, t, e)
-}
+pub mod create;
+pub mod remove;

@@ -265,7 +265,7 @@ pub extern "C" fn skein_access(
 ) -> u64
     ensures { λ answer. ⌜ Answers answer (after system entries rulesets layers pool threads) (accessCall (before system entries rulesets layers pool threads) t e rights) ⌝ }
 {
-    number(broker::access(
+    number(broker::entries::access(
         system,
         entries,
         rulesets,
@@ -292,7 +292,7 @@ pub extern "C" fn skein_port(
 ) -> u64
     ensures { λ answer. ⌜ Answers answer (after system entries rulesets layers pool threads) (portCall (before system entries rulesets layers pool threads) t p rights) ⌝ }
 {
-    number(broker::port(
+    number(broker::ports::port(
         system,
         entries,
         rulesets,
@@ -319,7 +319,7 @@ pub extern "C" fn skein_create(
 ) -> u64
     ensures { λ answer. ⌜ Answers answer (after system entries rulesets layers pool threads) (treeCreate (before system entries rulesets layers pool threads) t d k) ⌝ }
 {
-    number(broker_tree::create(system, entries, rulesets, layers, pool, threads, t, d, k))
+    number(broker_tree::create::create(system, entries, rulesets, layers, pool, threads, t, d, k))
 }
 
 #[no_mangle]
@@ -335,7 +335,7 @@ pub extern "C" fn skein_remove(
 ) -> u64
     ensures { λ answer. ⌜ Answers answer (after system entries rulesets layers pool threads) (treeRemove (before system entries rulesets layers pool threads) t e) ⌝ }
 {
-    number(broker_tree::remove(system, entries, rulesets, layers, pool, threads, t, e))
+    number(broker_tree::remove::remove(system, entries, rulesets, layers, pool, threads, t, e))
 }
 
 #[no_mangle]

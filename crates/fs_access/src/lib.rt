@@ -2,7 +2,7 @@
 use access::errno::Errno;
 use access::errno::Reply;
 use access::rights::Rights;
-use judge_domain::domain_lacks;
+use judge_domain::entries::domain_lacks;
 use tables::rows::entry_live;
 use tables::rows::past_file_set;
 use tables::rows::thread_live;

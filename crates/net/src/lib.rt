@@ -3,7 +3,7 @@ use access::errno::Errno;
 use access::errno::Reply;
 use access::limits::MAX_PORT;
 use access::rights::Rights;
-use judge_domain::domain_port_lacks;
+use judge_domain::ports::domain_port_lacks;
 use tables::rows::thread_live;
 use tables::rows::youngest_of;
 ghost use mathlib.Core.Path.{_≡_};

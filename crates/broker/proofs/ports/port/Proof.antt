@@ -1,8 +1,8 @@
 -- Assumes nothing.
 use Rattle.sound.proofs.Calls.{call-unsound, call-passes}
 use Rattle.net.specs.Port.{portCall}
-use Rattle.broker.proofs.port.Statement.{statement}
-use Rattle.broker.proofs.port.Tie as tie
+use Rattle.broker.proofs.ports.port.Statement.{statement}
+use Rattle.broker.proofs.ports.port.Tie as tie
 
 pub port-spec : {M : Type 1} → statement M
 unfolding portCall

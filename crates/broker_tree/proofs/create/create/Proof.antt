@@ -2,8 +2,8 @@
 use borrow.Author.Needs.{needs}
 use Rattle.sound.proofs.Calls.{call-unsound, call-passes}
 use Rattle.tree.specs.Create.{treeCreate}
-use Rattle.broker_tree.proofs.create.Statement.{statement}
-use Rattle.broker_tree.proofs.create.Tie as tie
+use Rattle.broker_tree.proofs.create.create.Statement.{statement}
+use Rattle.broker_tree.proofs.create.create.Tie as tie
 
 pub create-spec : {M : Type 1} → statement M
 unfolding treeCreate

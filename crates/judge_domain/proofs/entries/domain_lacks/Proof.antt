@@ -5,8 +5,8 @@ use Rattle.laws.specs.Tests.{any}
 use Rattle.access.specs.Limits.{maxDomain}
 use Rattle.judge.specs.Domain.{chain, layerLacks, lacks}
 use Rattle.judge.proofs.Chains.{walk-end, walk-none, walk-hit, walk-up}
-use Rattle.judge_domain.proofs.domain_lacks.Statement.{statement}
-use Rattle.judge_domain.proofs.domain_lacks.Tie as tie
+use Rattle.judge_domain.proofs.entries.domain_lacks.Statement.{statement}
+use Rattle.judge_domain.proofs.entries.domain_lacks.Tie as tie
 
 abbrev Inv-loop : tie.InvT-loop
 Inv-loop entries layers pool y e asked at₀ n₀ at n = lacks entries layers pool (chain layers maxDomain y) e (asked .0) ≡ any (layerLacks entries layers pool e (asked .0)) (chain layers n at)

@@ -1,7 +1,7 @@
 -- Assumes nothing.
 use Rattle.judge.specs.Domain.{layerLacks}
-use Rattle.judge_domain.proofs.layer_lacks.Statement.{statement}
-use Rattle.judge_domain.proofs.layer_lacks.Tie as tie
+use Rattle.judge_domain.proofs.entries.layer_lacks.Statement.{statement}
+use Rattle.judge_domain.proofs.entries.layer_lacks.Tie as tie
 
 pub layer-lacks-spec : {M : Type 1} → statement M
 unfolding layerLacks

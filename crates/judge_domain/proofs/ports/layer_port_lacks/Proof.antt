@@ -1,7 +1,7 @@
 -- Assumes nothing.
 use Rattle.judge.specs.Domain.{layerPortLacks}
-use Rattle.judge_domain.proofs.layer_port_lacks.Statement.{statement}
-use Rattle.judge_domain.proofs.layer_port_lacks.Tie as tie
+use Rattle.judge_domain.proofs.ports.layer_port_lacks.Statement.{statement}
+use Rattle.judge_domain.proofs.ports.layer_port_lacks.Tie as tie
 
 pub layer-port-lacks-spec : {M : Type 1} → statement M
 unfolding layerPortLacks

@@ -5,8 +5,8 @@ use Rattle.laws.specs.Tests.{any}
 use Rattle.access.specs.Limits.{maxDomain}
 use Rattle.judge.specs.Domain.{chain, layerPortLacks, portLacks}
 use Rattle.judge.proofs.Chains.{walk-end, walk-none, walk-hit, walk-up}
-use Rattle.judge_domain.proofs.domain_port_lacks.Statement.{statement}
-use Rattle.judge_domain.proofs.domain_port_lacks.Tie as tie
+use Rattle.judge_domain.proofs.ports.domain_port_lacks.Statement.{statement}
+use Rattle.judge_domain.proofs.ports.domain_port_lacks.Tie as tie
 
 abbrev Inv-loop : tie.InvT-loop
 Inv-loop layers pool y port asked at₀ n₀ at n = portLacks layers pool (chain layers maxDomain y) port (asked .0) ≡ any (layerPortLacks layers pool port (asked .0)) (chain layers n at)

@@ -1,8 +1,8 @@
 -- Assumes nothing.
 use Rattle.sound.proofs.Calls.{call-unsound, call-passes}
 use Rattle.fs_access.specs.Access.{accessCall}
-use Rattle.broker.proofs.access.Statement.{statement}
-use Rattle.broker.proofs.access.Tie as tie
+use Rattle.broker.proofs.entries.access.Statement.{statement}
+use Rattle.broker.proofs.entries.access.Tie as tie
 
 pub access-spec : {M : Type 1} → statement M
 unfolding accessCall

@@ -2,8 +2,8 @@
 use borrow.Author.Needs.{needs}
 use Rattle.sound.proofs.Calls.{call-unsound, call-passes}
 use Rattle.tree.specs.Create.{treeRemove}
-use Rattle.broker_tree.proofs.remove.Statement.{statement}
-use Rattle.broker_tree.proofs.remove.Tie as tie
+use Rattle.broker_tree.proofs.remove.remove.Statement.{statement}
+use Rattle.broker_tree.proofs.remove.remove.Tie as tie
 
 pub remove-spec : {M : Type 1} → statement M
 unfolding treeRemove
