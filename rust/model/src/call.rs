@@ -46,6 +46,8 @@ macro_rules! calls {
         }
 
         impl Model {
+            // A report's length has no say in the answer.
+            #[allow(unused_variables)]
             fn answer_number(&mut self, call: &Call) -> Answer {
                 let $model = self;
                 match *call {
@@ -67,8 +69,8 @@ calls! {
     AddPortRule "add_port_rule" { ruleset, port, rights, flags }
         => model.add_port_rule(ruleset, port, rights, flags);
     Restrict "restrict" { thread, ruleset, flags } => model.restrict(thread, ruleset, flags);
-    /// Reads where a layer's rules stand.
-    LayerRules "layer_rules" { layer } => model.layer_rules(layer).map(|_| 0);
+    /// Reads where a layer's rules stand into a report of so many cells.
+    LayerRules "layer_rules" { layer, report } => model.layer_rules(layer).map(|_| 0);
     Clone "clone" { thread } => model.clone_thread(thread);
     SetNoNewPrivs "set_no_new_privs" { thread } => model.set_no_new_privs(thread);
     /// Sets the admin mark, or clears it where `on` is 0.
@@ -85,19 +87,41 @@ calls! {
         => model.exchange(thread, source, directory, entry);
 }
 
-/// What a call returns: its number and, for a layer's rules, their cells in the pool.
-#[derive(Clone, Copy, PartialEq, Eq, Debug)]
+/// What the cells of a report hold before a call.
+pub const UNWRITTEN: u64 = 0x5555_5555_5555_5555;
+
+impl Call {
+    /// The cells of the call's report before it; none for a call without one.
+    pub fn unwritten_report(&self) -> Vec<u64> {
+        match *self {
+            Call::LayerRules { report, .. } => vec![UNWRITTEN; report as usize],
+            _ => Vec::new(),
+        }
+    }
+
+    /// The cells of the call's report after it, where it says these numbers: those that fit are
+    /// written, and cells past them stay.
+    pub fn report_of(&self, numbers: [u64; 2]) -> Vec<u64> {
+        let mut report = self.unwritten_report();
+        for (cell, number) in report.iter_mut().zip(numbers) {
+            *cell = number;
+        }
+        report
+    }
+}
+
+/// What a call returns: its number, and every cell of its report.
+#[derive(Clone, PartialEq, Eq, Debug)]
 pub struct Reply {
     pub number: u64,
-    /// The first cell and the number of cells.
-    pub part: [u64; 2],
+    pub report: Vec<u64>,
 }
 
 impl Reply {
-    pub fn of(answer: Answer, part: [u64; 2]) -> Reply {
+    pub fn of(answer: Answer, report: Vec<u64>) -> Reply {
         Reply {
             number: returned(answer),
-            part,
+            report,
         }
     }
 }
@@ -108,13 +132,14 @@ pub trait Broker {
 }
 
 impl Model {
-    /// Answers a call; the second number pair is a layer's part of the pool.
-    pub fn answer(&mut self, call: &Call) -> (Answer, [u64; 2]) {
-        let part = match *call {
-            Call::LayerRules { layer } => self.layer_rules(layer).unwrap_or_default(),
+    /// Answers a call; for a layer's rules with a report of their first cell in the pool and their
+    /// number of cells.
+    pub fn answer(&mut self, call: &Call) -> (Answer, Vec<u64>) {
+        let (place, count) = match *call {
+            Call::LayerRules { layer, .. } => self.layer_rules(layer).unwrap_or_default(),
             _ => (0, 0),
         };
-        let cells = [3 * part.0 as u64, 3 * part.1 as u64];
-        (self.answer_number(call), cells)
+        let report = call.report_of([3 * place as u64, 3 * count as u64]);
+        (self.answer_number(call), report)
     }
 }

@@ -1,13 +1,15 @@
 //! A broker and the model side by side, driven through random lists of calls.
 
+use crate::attributes::{self, LONGEST};
 use crate::call::{Broker, Call, Reply};
 use crate::damage::{pokes, undo, Poke};
-use crate::generate::{call, Mix};
+use crate::generate::{call, every_call, Mix};
+use crate::odd::{random_cells, wrong_lengths, Odd};
 use crate::random::Random;
 use crate::reference::Reference;
 use crate::refusal::Answer;
 use crate::start::start;
-use crate::state::Model;
+use crate::state::{Model, LAST_LEVEL};
 use crate::tables::{encode, Table, Tables};
 use crate::tally::Tally;
 use std::time::{Duration, Instant};
@@ -92,8 +94,8 @@ impl<B: Broker> Pair<'_, B> {
 
     fn call(&mut self, call: &Call) -> (Answer, Option<Difference>) {
         let broker = self.broker.answer(&mut self.tables, call);
-        let (answer, part) = self.reference.answer(call);
-        let model = Reply::of(answer, part);
+        let (answer, report) = self.reference.answer(call);
+        let model = Reply::of(answer, report);
         if broker == model && self.tables == *self.reference.tables() {
             return (answer, None);
         }
@@ -126,6 +128,24 @@ pub fn first_difference<B: Broker>(broker: &mut B, case: &Case) -> Option<Differ
     case.steps.iter().find_map(|step| pair.take(step).1)
 }
 
+/// Opens rulesets from attributes of every length, at every level; answers a case in which the
+/// sides differ.
+pub fn sweep<B: Broker>(broker: &mut B, seed: u64, tally: &mut Tally) -> Option<Case> {
+    let mut random = Random::new(seed);
+    let lengths =
+        (0..=LAST_LEVEL).flat_map(|level| (0..=LONGEST).map(move |length| (level, length)));
+    for (level, length) in lengths {
+        let mut session = Session::new(broker, Model::fresh(level), Mix::Every);
+        for (filling, call) in attributes::calls(level, length, &mut random) {
+            tally.count_attribute(filling, level, length);
+            if session.take(tally, Step::Call(call)).is_some() {
+                return Some(session.case);
+            }
+        }
+    }
+    None
+}
+
 /// How long a comparison goes on.
 pub struct Options {
     pub seed: u64,
@@ -133,15 +153,15 @@ pub struct Options {
     pub seconds: Option<u64>,
 }
 
-/// Drives both sides through random cases; answers what was met, and a case in which they differ.
-pub fn compare<B: Broker>(broker: &mut B, options: &Options) -> (Tally, Option<Case>) {
+/// Drives both sides through random cases; answers a case in which they differ.
+pub fn compare<B: Broker>(broker: &mut B, options: &Options, tally: &mut Tally) -> Option<Case> {
     let deadline = options
         .seconds
         .map(|seconds| Instant::now() + Duration::from_secs(seconds));
     let mut run = Run {
         random: Random::new(options.seed),
-        tally: Tally::default(),
-        calls: options.calls,
+        last_call: tally.calls.saturating_add(options.calls),
+        tally,
         deadline,
     };
     while !run.is_over() {
@@ -149,23 +169,24 @@ pub fn compare<B: Broker>(broker: &mut B, options: &Options) -> (Tally, Option<C
         let mix = run.random.pick(&[Mix::Every, Mix::Tree]);
         let mut session = Session::new(broker, start, mix);
         if session.play(&mut run).is_some() {
-            return (run.tally, Some(session.case));
+            return Some(session.case);
         }
     }
-    (run.tally, None)
+    None
 }
 
 /// The state of a comparison.
-struct Run {
+struct Run<'a> {
     random: Random,
-    tally: Tally,
-    calls: u64,
+    tally: &'a mut Tally,
+    /// The calls counted when it ends.
+    last_call: u64,
     deadline: Option<Instant>,
 }
 
-impl Run {
+impl Run<'_> {
     fn is_over(&self) -> bool {
-        self.tally.calls >= self.calls || self.deadline.is_some_and(|end| Instant::now() >= end)
+        self.tally.calls >= self.last_call || self.deadline.is_some_and(|end| Instant::now() >= end)
     }
 }
 
@@ -209,10 +230,11 @@ impl<B: Broker> Session<'_, B> {
                 self.assert_consistent();
             }
         }
-        if run.random.chance(25) {
-            return self.wrong_length(run);
+        match run.random.below(100) {
+            0..=19 => self.wrong_lengths(run),
+            20..=23 => self.random_cells(run),
+            _ => None,
         }
-        None
     }
 
     /// The kept state and the cells must show the same.
@@ -225,13 +247,13 @@ impl<B: Broker> Session<'_, B> {
         );
     }
 
-    fn take(&mut self, run: &mut Run, step: Step) -> Option<Difference> {
+    fn take(&mut self, tally: &mut Tally, step: Step) -> Option<Difference> {
         let same_object = self.on_one_object(&step);
         let (answer, difference) = self.pair.take(&step);
         if let (Step::Call(call), Some(answer)) = (&step, answer) {
-            run.tally.count(call, answer);
+            tally.count(call, answer);
             if same_object && answer.is_ok() {
-                run.tally.count_same_object(call);
+                tally.count_same_object(call);
             }
         }
         self.case.steps.push(step);
@@ -262,7 +284,7 @@ impl<B: Broker> Session<'_, B> {
             Ok(model) => call(model, self.mix, &mut run.random),
             Err(_) => call(&self.case.start, Mix::Every, &mut run.random),
         };
-        self.take(run, Step::Call(call))
+        self.take(run.tally, Step::Call(call))
     }
 
     /// Damages cells; if the tables aren't sound then, a few calls follow and the cells are mended.
@@ -271,7 +293,7 @@ impl<B: Broker> Session<'_, B> {
         let tables = self.pair.reference.tables();
         let damage = pokes(model, tables, &mut run.random);
         let mended = undo(tables, &damage);
-        self.take(run, Step::Damage(damage));
+        self.take(run.tally, Step::Damage(damage));
         let broken = self.pair.reference.model().err();
         run.tally.count_damage(broken);
         broken?;
@@ -281,36 +303,39 @@ impl<B: Broker> Session<'_, B> {
             }
         }
         if self.pair.reference.model().is_err() {
-            self.take(run, Step::Damage(mended));
+            self.take(run.tally, Step::Damage(mended));
         }
         None
     }
 
-    /// Gives a table a wrong length and makes a few calls.
-    fn wrong_length(&mut self, run: &mut Run) -> Option<Difference> {
-        let table = run.random.pick(&Table::ALL);
-        let right = table.length() as u64;
-        let length = match run.random.below(5) {
-            0 => 0,
-            1 => right - 1,
-            2 => right + 1,
-            3 => run.random.below(right),
-            _ => right + run.random.below(200),
-        };
-        let length = length as usize;
-        self.take(run, Step::Resize { table, length });
-        run.tally.count_damage(self.pair.reference.model().err());
-        for _ in 0..2 {
-            let step = if run.random.chance(20) {
-                let level = run.random.below(8);
-                Step::Call(Call::Fresh { level })
-            } else {
-                Step::Call(call(&self.case.start, Mix::Every, &mut run.random))
-            };
-            if let Some(difference) = self.take(run, step) {
-                return Some(difference);
-            }
+    /// Gives tables wrong lengths and makes every call.
+    fn wrong_lengths(&mut self, run: &mut Run) -> Option<Difference> {
+        let model = self.pair.reference.model().ok()?.clone();
+        let (odds, steps) = wrong_lengths(&mut run.random);
+        for step in steps {
+            self.take(run.tally, step);
         }
-        None
+        run.tally.count_damage(self.pair.reference.model().err());
+        self.every_call(run, &model, &odds)
+    }
+
+    /// Writes every cell at random, makes every call, and then some on fresh tables of these.
+    fn random_cells(&mut self, run: &mut Run) -> Option<Difference> {
+        let model = self.pair.reference.model().ok()?.clone();
+        self.take(run.tally, Step::Damage(random_cells(&mut run.random)));
+        let difference = self.every_call(run, &model, &[Odd::RandomCells]);
+        let level = run.random.between(0, LAST_LEVEL);
+        difference
+            .or_else(|| self.take(run.tally, Step::Call(Call::Fresh { level })))
+            .or_else(|| (0..5).find_map(|_| self.random_call(run)))
+    }
+
+    /// Makes every call once, with arguments for tables that show a model.
+    fn every_call(&mut self, run: &mut Run, model: &Model, odds: &[Odd]) -> Option<Difference> {
+        let calls = every_call(model, &mut run.random);
+        calls.into_iter().find_map(|call| {
+            run.tally.count_odd(odds, &call);
+            self.take(run.tally, Step::Call(call))
+        })
     }
 }

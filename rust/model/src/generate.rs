@@ -22,26 +22,39 @@ pub fn call(model: &Model, mix: Mix, random: &mut Random) -> Call {
         Mix::Tree if choose.random.chance(90) => choose.random.between(550, 999),
         _ => choose.random.below(1000),
     };
-    match sort {
-        0..=3 => choose.fresh(),
-        4..=79 => choose.create_ruleset(),
-        80..=109 => choose.close_ruleset(),
-        110..=219 => choose.add_path_rule(),
-        220..=289 => choose.add_port_rule(),
-        290..=369 => choose.restrict(),
-        370..=399 => choose.layer_rules(),
-        400..=424 => choose.clone_thread(),
-        425..=439 => choose.set_no_new_privs(),
-        440..=464 => choose.set_admin(),
-        465..=564 => choose.access(),
-        565..=614 => choose.port(),
-        615..=694 => choose.create(),
-        695..=744 => choose.remove(),
-        745..=804 => choose.link(),
-        805..=904 => choose.rename(),
-        _ => choose.exchange(),
-    }
+    let (_, make) = SORTS[SORTS.partition_point(|(end, _)| *end <= sort)];
+    make(&mut choose)
 }
+
+/// A random call of every name, `fresh` the last.
+pub fn every_call(model: &Model, random: &mut Random) -> Vec<Call> {
+    let mut choose = Choose { model, random };
+    let sorts = SORTS.iter().rev();
+    sorts.map(|(_, make)| make(&mut choose)).collect()
+}
+
+type Make = fn(&mut Choose) -> Call;
+
+/// The calls, each with the end of its share of a thousand.
+const SORTS: [(u64, Make); 17] = [
+    (4, |choose| choose.fresh()),
+    (80, |choose| choose.create_ruleset()),
+    (110, |choose| choose.close_ruleset()),
+    (220, |choose| choose.add_path_rule()),
+    (290, |choose| choose.add_port_rule()),
+    (370, |choose| choose.restrict()),
+    (400, |choose| choose.layer_rules()),
+    (425, |choose| choose.clone_thread()),
+    (440, |choose| choose.set_no_new_privs()),
+    (465, |choose| choose.set_admin()),
+    (565, |choose| choose.access()),
+    (615, |choose| choose.port()),
+    (695, |choose| choose.create()),
+    (745, |choose| choose.remove()),
+    (805, |choose| choose.link()),
+    (905, |choose| choose.rename()),
+    (1000, |choose| choose.exchange()),
+];
 
 /// The choice of arguments.
 struct Choose<'a> {
@@ -170,7 +183,8 @@ impl Choose<'_> {
         } else {
             self.random.edge()
         };
-        Call::LayerRules { layer }
+        let report = self.random.pick(&[0, 1, 1, 2, 2, 2, 3, 3, 9]);
+        Call::LayerRules { layer, report }
     }
 
     fn clone_thread(&mut self) -> Call {

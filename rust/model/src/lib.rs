@@ -3,14 +3,18 @@
 //!
 //! The model is [`state`] with the calls in [`rulesets`], [`threads`], [`judge`] and [`tree`];
 //! [`tables`] and [`sound`] convert between it and cells. The comparison is [`compare`], fed by
-//! [`start`], [`generate`] and [`damage`]; a difference is made short by [`shrink`] and printed by
-//! [`scenario`].
+//! [`start`], [`generate`], [`damage`], [`odd`] and [`attributes`]; a difference is made short by
+//! [`shrink`] and printed by [`scenario`].
 
+pub mod attributes;
 pub mod call;
 pub mod compare;
 pub mod damage;
 pub mod generate;
 pub mod judge;
+pub mod odd;
+#[cfg(feature = "core")]
+pub mod proved;
 pub mod random;
 pub mod reference;
 pub mod refusal;

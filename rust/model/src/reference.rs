@@ -54,10 +54,10 @@ impl Reference {
     }
 
     /// Answers a call and writes every cell anew.
-    pub fn answer(&mut self, call: &Call) -> (Answer, [u64; 2]) {
+    pub fn answer(&mut self, call: &Call) -> (Answer, Vec<u64>) {
         let answered = match &mut self.model {
             Ok(model) => model.answer(call),
-            Err(_) => (self.answer_unsound(call), [0, 0]),
+            Err(_) => (self.answer_unsound(call), call.report_of([0, 0])),
         };
         if let Ok(model) = &self.model {
             encode_into(model, &mut self.tables);
@@ -94,8 +94,8 @@ impl Broker for Rereading {
             model: check(tables),
             tables: std::mem::take(tables),
         };
-        let (answer, part) = reference.answer(call);
+        let (answer, report) = reference.answer(call);
         *tables = reference.tables;
-        Reply::of(answer, part)
+        Reply::of(answer, report)
     }
 }

@@ -1,6 +1,6 @@
 //! A case as a scenario file, with what the two sides answered.
 
-use crate::call::{Call, Reply};
+use crate::call::{Call, Reply, UNWRITTEN};
 use crate::compare::{Case, Difference, Step};
 use crate::damage::Poke;
 use crate::reference::Reference;
@@ -27,15 +27,25 @@ pub fn scenario(case: &Case, difference: &Difference) -> String {
 /// The lines of a step, with the answer if it is a call.
 fn step_lines(step: &Step, answer: Option<Answer>) -> Vec<String> {
     match step {
-        Step::Call(call) => answer
-            .map(|answer| call_line(call, answer))
-            .into_iter()
-            .collect(),
+        Step::Call(call) => {
+            let line = answer.map(|answer| call_line(call, answer));
+            report_line(call).into_iter().chain(line).collect()
+        }
         Step::Damage(pokes) => pokes.iter().map(poke_line).collect(),
         Step::Resize { table, length } => vec![format!(
             "# here the table {} is cut or filled with zeros to {length} cells",
             table.name()
         )],
+    }
+}
+
+/// Says how long a report is that a scenario can't ask for.
+fn report_line(call: &Call) -> Option<String> {
+    match *call {
+        Call::LayerRules { report, .. } if report != 2 => {
+            Some(format!("# the report of this call has {report} cells"))
+        }
+        _ => None,
     }
 }
 
@@ -84,9 +94,11 @@ fn call_line(call: &Call, answer: Answer) -> String {
     format!("{line} => {expected}")
 }
 
-/// The arguments as a scenario writes them: a rename's entry stands there or not.
+/// The arguments as a scenario writes them: a rename's entry stands there or not, a report's length
+/// does not.
 fn written_numbers(call: &Call) -> Vec<u64> {
     match *call {
+        Call::LayerRules { layer, .. } => vec![layer],
         Call::Rename {
             thread,
             source,
@@ -134,8 +146,12 @@ fn reply_text(reply: &Reply) -> String {
         .into_iter()
         .find(|errno| errno.returned() == reply.number);
     let number = errno.map_or(reply.number.to_string(), |errno| format!("{errno:?}"));
-    match reply.part {
-        [0, 0] => number,
-        [first, count] => format!("{number}, part from cell {first}, {count} cells"),
+    if reply.report.is_empty() {
+        return number;
     }
+    let cells = reply.report.iter().map(|cell| match *cell {
+        UNWRITTEN => "unwritten".to_string(),
+        cell => cell.to_string(),
+    });
+    format!("{number}, report {}", cells.collect::<Vec<_>>().join(" "))
 }

@@ -1,9 +1,12 @@
 //! How often each call got each answer, and which refusals were never met.
 
+use crate::attributes::{Filling, LONGEST};
 use crate::call::Call;
+use crate::odd::Odd;
 use crate::refusal::{Answer, Refusal};
 use crate::sound::Unsound;
-use std::collections::BTreeMap;
+use crate::state::LAST_LEVEL;
+use std::collections::{BTreeMap, BTreeSet};
 use std::fmt;
 
 use Refusal::*;
@@ -159,15 +162,25 @@ const REFUSALS: [(&str, &[Refusal]); 17] = [
     ),
 ];
 
-/// The answers counted by call, and the damage counted by the clause it breaks.
+/// The lengths of reports, in cells, that are to be met with every answer.
+const REPORTS: [u64; 4] = [0, 1, 2, 3];
+
+/// The answers counted by call, the damage counted by the clause it breaks, and more that is to be
+/// met.
 #[derive(Default)]
 pub struct Tally {
     pub calls: u64,
     answers: BTreeMap<(&'static str, Option<Refusal>), u64>,
     /// Successes of a rename or exchange of one object with itself.
     same_object: BTreeMap<&'static str, u64>,
+    /// Reads of a layer's rules by the length of the report.
+    reports: BTreeMap<(u64, Option<Refusal>), u64>,
     damages: BTreeMap<Unsound, u64>,
     harmless: u64,
+    /// Calls on odd tables.
+    odds: BTreeMap<(Odd, &'static str), u64>,
+    /// The lengths of swept attributes by filling and level.
+    attributes: BTreeMap<(Filling, u64), BTreeSet<usize>>,
 }
 
 impl Tally {
@@ -175,6 +188,22 @@ impl Tally {
         self.calls += 1;
         let refusal = answer.err();
         *self.answers.entry((call.name(), refusal)).or_default() += 1;
+        if let Call::LayerRules { report, .. } = *call {
+            *self.reports.entry((report, refusal)).or_default() += 1;
+        }
+    }
+
+    /// Counts a call on odd tables.
+    pub fn count_odd(&mut self, odds: &[Odd], call: &Call) {
+        for odd in odds {
+            *self.odds.entry((*odd, call.name())).or_default() += 1;
+        }
+    }
+
+    /// Counts an attribute of the sweep.
+    pub fn count_attribute(&mut self, filling: Filling, level: u64, length: usize) {
+        let lengths = self.attributes.entry((filling, level)).or_default();
+        lengths.insert(length);
     }
 
     pub fn count_same_object(&mut self, call: &Call) {
@@ -193,39 +222,82 @@ impl Tally {
         self.answers.get(&(call, refusal)).copied().unwrap_or(0)
     }
 
-    /// The clauses of soundness that no damage broke first.
-    pub fn unbroken(&self) -> Vec<Unsound> {
-        let all = Unsound::ALL.iter().copied();
-        all.filter(|clause| !self.damages.contains_key(clause))
+    /// The lengths of swept attributes with a filling at a level.
+    fn lengths(&self, filling: Filling, level: u64) -> usize {
+        let lengths = self.attributes.get(&(filling, level));
+        lengths.map_or(0, BTreeSet::len)
+    }
+
+    /// What random lists of calls are to meet and did not: refusals, clauses of soundness that
+    /// damage breaks first, reports and odd tables.
+    pub fn not_met(&self) -> Vec<String> {
+        let refusals = refusals().filter(|(call, refusal)| self.of(call, Some(*refusal)) == 0);
+        let clauses = Unsound::ALL.iter();
+        let unbroken = clauses.filter(|clause| !self.damages.contains_key(clause));
+        let reports = reports().filter(|report| !self.reports.contains_key(report));
+        let odds = odds().filter(|odd| !self.odds.contains_key(odd));
+        let lines = refusals.map(|(call, refusal)| format!("{call} {}", refusal_text(refusal)));
+        lines
+            .chain(unbroken.map(|clause| format!("damage {clause:?}")))
+            .chain(reports.map(|report| report_text(&report)))
+            .chain(odds.map(|(odd, call)| format!("{call} on {odd:?}")))
             .collect()
     }
 
-    /// The refusals never met, by call.
-    pub fn missed(&self) -> Vec<(&'static str, Refusal)> {
-        let pairs = REFUSALS.iter().flat_map(|(call, refusals)| {
-            let unsound = (*call != "fresh").then_some(NotSound);
-            let all = unsound.into_iter().chain(refusals.iter().copied());
-            all.map(|refusal| (*call, refusal))
+    /// What the sweep of attributes is to meet and did not.
+    pub fn not_swept(&self) -> Vec<String> {
+        let levels = Filling::ALL
+            .into_iter()
+            .flat_map(|filling| (0..=LAST_LEVEL).map(move |level| (filling, level)));
+        let lines = levels.filter_map(|(filling, level)| {
+            let fit = (0..=LONGEST).filter(|length| filling.fits(level, *length));
+            let missing = fit.count() - self.lengths(filling, level);
+            let line = format!("{missing} lengths of attributes, {filling:?}, level {level}");
+            (missing > 0).then_some(line)
         });
-        pairs
-            .filter(|(call, refusal)| self.of(call, Some(*refusal)) == 0)
-            .collect()
+        lines.collect()
     }
+}
+
+/// Each call with each of its refusals.
+fn refusals() -> impl Iterator<Item = (&'static str, Refusal)> {
+    REFUSALS.iter().flat_map(|(call, refusals)| {
+        let unsound = (*call != "fresh").then_some(NotSound);
+        let all = unsound.into_iter().chain(refusals.iter().copied());
+        all.map(|refusal| (*call, refusal))
+    })
+}
+
+/// Each length of a report with each answer.
+fn reports() -> impl Iterator<Item = (u64, Option<Refusal>)> {
+    let answers = [None, Some(NotSound), Some(LayerNotInUse)];
+    REPORTS
+        .into_iter()
+        .flat_map(move |length| answers.map(|answer| (length, answer)))
+}
+
+/// Each sort of odd tables with each call.
+fn odds() -> impl Iterator<Item = (Odd, &'static str)> {
+    Odd::ALL
+        .into_iter()
+        .flat_map(|odd| Call::NAMES.iter().map(move |call| (odd, *call)))
+}
+
+fn refusal_text(refusal: Refusal) -> String {
+    format!("{:?} {refusal:?}", refusal.errno())
+}
+
+fn report_text((length, refusal): &(u64, Option<Refusal>)) -> String {
+    let answer = refusal.map_or("success".to_string(), refusal_text);
+    format!("report of {length} cells, {answer}")
 }
 
 impl fmt::Display for Tally {
     fn fmt(&self, f: &mut fmt::Formatter) -> fmt::Result {
-        for call in Call::NAMES {
-            writeln!(f, "{call}: {} succeeded", self.of(call, None))?;
-            if let Some(count) = self.same_object.get(call) {
-                writeln!(f, "    of these on one object {count}")?;
-            }
-            let refused = self.answers.iter().filter(|((name, _), _)| name == call);
-            for ((_, refusal), count) in refused {
-                if let Some(refusal) = refusal {
-                    writeln!(f, "    {:?} {refusal:?} {count}", refusal.errno())?;
-                }
-            }
+        self.write_answers(f)?;
+        writeln!(f, "layer_rules by the length of the report:")?;
+        for (report, count) in &self.reports {
+            writeln!(f, "    {} {count}", report_text(report))?;
         }
         writeln!(
             f,
@@ -239,11 +311,49 @@ impl fmt::Display for Tally {
         for (clause, count) in &self.damages {
             writeln!(f, "    {clause:?} {count}")?;
         }
-        for (call, refusal) in self.missed() {
-            writeln!(f, "not met: {call} {:?} {refusal:?}", refusal.errno())?;
+        self.write_odds(f)?;
+        self.write_attributes(f)?;
+        for line in self.not_met().into_iter().chain(self.not_swept()) {
+            writeln!(f, "not met: {line}")?;
         }
-        for clause in self.unbroken() {
-            writeln!(f, "not met: damage {clause:?}")?;
+        Ok(())
+    }
+}
+
+impl Tally {
+    fn write_answers(&self, f: &mut fmt::Formatter) -> fmt::Result {
+        for call in Call::NAMES {
+            writeln!(f, "{call}: {} succeeded", self.of(call, None))?;
+            if let Some(count) = self.same_object.get(call) {
+                writeln!(f, "    of these on one object {count}")?;
+            }
+            let refused = self.answers.iter().filter(|((name, _), _)| name == call);
+            for ((_, refusal), count) in refused {
+                if let Some(refusal) = refusal {
+                    writeln!(f, "    {} {count}", refusal_text(*refusal))?;
+                }
+            }
+        }
+        Ok(())
+    }
+
+    fn write_odds(&self, f: &mut fmt::Formatter) -> fmt::Result {
+        writeln!(f, "calls on odd tables, and how many of these were fresh:")?;
+        for odd in Odd::ALL {
+            let calls = self.odds.iter().filter(|((other, _), _)| *other == odd);
+            let all: u64 = calls.map(|(_, count)| count).sum();
+            let fresh = self.odds.get(&(odd, "fresh")).copied().unwrap_or(0);
+            writeln!(f, "    {odd:?} {all} {fresh}")?;
+        }
+        Ok(())
+    }
+
+    fn write_attributes(&self, f: &mut fmt::Formatter) -> fmt::Result {
+        writeln!(f, "lengths of attributes met at each level from 0:")?;
+        for filling in Filling::ALL {
+            let levels = (0..=LAST_LEVEL).map(|level| self.lengths(filling, level).to_string());
+            let levels: Vec<String> = levels.collect();
+            writeln!(f, "    {filling:?} {}", levels.join(" "))?;
         }
         Ok(())
     }

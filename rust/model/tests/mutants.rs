@@ -1,13 +1,14 @@
 //! The comparison must find brokers with a deliberate fault, and make the case short.
 
-use model::call::{Broker, Call, Reply};
-use model::compare::{compare, Case, Difference, Options};
+use model::call::{Broker, Call, Reply, UNWRITTEN};
+use model::compare::{compare, sweep, Case, Difference, Options, Step};
 use model::reference::Rereading;
 use model::refusal::Refusal;
 use model::scenario::scenario;
 use model::shrink::shrink;
 use model::sound::{check, Unsound};
-use model::tables::{encode_into, Tables};
+use model::tables::{encode_into, Table, Tables};
+use model::tally::Tally;
 
 /// The first difference that a comparison finds, made short.
 fn found<B: Broker>(broker: &mut B) -> (Case, Difference) {
@@ -16,7 +17,11 @@ fn found<B: Broker>(broker: &mut B) -> (Case, Difference) {
         calls: 200_000,
         seconds: None,
     };
-    let (_, case) = compare(broker, &options);
+    let case = compare(broker, &options, &mut Tally::default());
+    shortened(broker, case)
+}
+
+fn shortened<B: Broker>(broker: &mut B, case: Option<Case>) -> (Case, Difference) {
     shrink(broker, case.expect("no difference found")).expect("the difference is gone")
 }
 
@@ -33,7 +38,7 @@ impl Broker for OneContainment {
                     model.entries.get_mut(entry).unwrap().parent = one.parent;
                 }
                 encode_into(&model, tables);
-                return Reply::of(Ok(0), [0, 0]);
+                return Reply::of(Ok(0), Vec::new());
             }
         }
         Rereading.answer(tables, call)
@@ -81,7 +86,7 @@ impl Broker for Careless {
     fn answer(&mut self, tables: &mut Tables, call: &Call) -> Reply {
         if check(tables) == Err(Unsound::RuleTwice) {
             if let Call::Access { .. } = call {
-                return Reply::of(Ok(0), [0, 0]);
+                return Reply::of(Ok(0), Vec::new());
             }
         }
         Rereading.answer(tables, call)
@@ -120,15 +125,193 @@ fn a_wrong_length_is_found() {
     assert!(text.contains("# here the table pool"), "{text}");
 }
 
+/// Answers as if tables that are longer, with cells set past the end, were right.
+struct FirstCells;
+
+impl Broker for FirstCells {
+    fn answer(&mut self, tables: &mut Tables, call: &Call) -> Reply {
+        let rest = Table::ALL.map(|table| past_end(tables, table));
+        if rest.iter().flatten().all(|cell| *cell == 0) {
+            return Rereading.answer(tables, call);
+        }
+        for table in Table::ALL {
+            tables.of_mut(table).truncate(table.length());
+        }
+        let reply = Rereading.answer(tables, call);
+        for (cells, rest) in tables.cells.iter_mut().zip(rest) {
+            cells.extend(rest);
+        }
+        reply
+    }
+}
+
+/// The cells past a table's right length.
+fn past_end(tables: &Tables, table: Table) -> Vec<u64> {
+    let cells = tables.of(table).iter();
+    cells.skip(table.length()).copied().collect()
+}
+
 #[test]
-fn the_model_does_not_differ_from_itself_and_meets_every_refusal() {
+fn a_look_at_the_first_cells_alone_is_found() {
+    let (case, difference) = found(&mut FirstCells);
+    let text = scenario(&case, &difference);
+    assert_eq!(case.steps.len(), 3, "{text}");
+    assert!(text.contains("# here the table "), "{text}");
+    assert!(text.contains("=> EIO\n"), "{text}");
+}
+
+/// Grants every request where the lengths of two tables are wrong.
+struct EvenLengths;
+
+impl Broker for EvenLengths {
+    fn answer(&mut self, tables: &mut Tables, call: &Call) -> Reply {
+        let all = Table::ALL.into_iter();
+        let wrong = all.filter(|table| tables.of(*table).len() != table.length());
+        match call {
+            Call::Access { .. } if wrong.count() == 2 => Reply::of(Ok(0), Vec::new()),
+            _ => Rereading.answer(tables, call),
+        }
+    }
+}
+
+#[test]
+fn two_wrong_lengths_are_found() {
+    let (case, difference) = found(&mut EvenLengths);
+    let text = scenario(&case, &difference);
+    assert_eq!(case.steps.len(), 3, "{text}");
+    assert_eq!(text.matches("# here the table ").count(), 2, "{text}");
+}
+
+/// Tests the level of fresh tables before their lengths.
+struct LevelFirst;
+
+impl Broker for LevelFirst {
+    fn answer(&mut self, tables: &mut Tables, call: &Call) -> Reply {
+        match *call {
+            Call::Fresh { level } if level > 6 => Reply::of(Err(Refusal::UnknownLevel), Vec::new()),
+            _ => Rereading.answer(tables, call),
+        }
+    }
+}
+
+#[test]
+fn a_level_before_the_lengths_is_found() {
+    let (case, difference) = found(&mut LevelFirst);
+    let text = scenario(&case, &difference);
+    assert_eq!(case.steps.len(), 2, "{text}");
+    assert!(text.contains("\nfresh 7 => EIO\n"), "{text}");
+}
+
+/// Makes fresh tables by clearing the rows of entries whose first cell isn't 0.
+struct UsedRows;
+
+impl Broker for UsedRows {
+    fn answer(&mut self, tables: &mut Tables, call: &Call) -> Reply {
+        let before = tables.of(Table::Entries).to_vec();
+        let reply = Rereading.answer(tables, call);
+        if matches!(call, Call::Fresh { .. }) && reply.number == 0 {
+            let after = tables.of_mut(Table::Entries).chunks_exact_mut(3);
+            let rows = after.zip(before.chunks_exact(3));
+            for (row, before) in rows.filter(|(_, before)| before[0] == 0) {
+                row[1..].copy_from_slice(&before[1..]);
+            }
+        }
+        reply
+    }
+}
+
+#[test]
+fn a_row_that_is_not_cleared_is_found() {
+    let (case, difference) = found(&mut UsedRows);
+    let text = scenario(&case, &difference);
+    assert_eq!(case.steps.len(), 2, "{text}");
+    assert_eq!(difference.cells.len(), 1, "{text}");
+}
+
+/// Clears the cells of a report past those that it has to say.
+struct WholeReport;
+
+impl Broker for WholeReport {
+    fn answer(&mut self, tables: &mut Tables, call: &Call) -> Reply {
+        let mut reply = Rereading.answer(tables, call);
+        reply.report.iter_mut().skip(2).for_each(|cell| *cell = 0);
+        reply
+    }
+}
+
+#[test]
+fn a_report_past_its_cells_is_found() {
+    let (case, difference) = found(&mut WholeReport);
+    let text = scenario(&case, &difference);
+    assert_eq!(case.steps.len(), 1, "{text}");
+    assert_eq!(difference.model.report, [0, 0, UNWRITTEN], "{text}");
+    assert!(text.contains("report of this call has 3 cells"), "{text}");
+}
+
+/// Writes nothing into a report that is too short.
+struct FullReport;
+
+impl Broker for FullReport {
+    fn answer(&mut self, tables: &mut Tables, call: &Call) -> Reply {
+        let mut reply = Rereading.answer(tables, call);
+        if reply.report.len() < 2 {
+            reply.report = call.unwritten_report();
+        }
+        reply
+    }
+}
+
+#[test]
+fn a_short_report_left_out_is_found() {
+    let (case, difference) = found(&mut FullReport);
+    let text = scenario(&case, &difference);
+    assert_eq!(case.steps.len(), 1, "{text}");
+    assert_eq!(difference.broker.report, [UNWRITTEN], "{text}");
+    assert!(text.contains("report of this call has 1 cells"), "{text}");
+}
+
+/// Looks at the first bytes of an attribute alone.
+struct FirstBytes;
+
+impl Broker for FirstBytes {
+    fn answer(&mut self, tables: &mut Tables, call: &Call) -> Reply {
+        let mut call = call.clone();
+        if let Call::CreateRuleset { bytes, .. } = &mut call {
+            bytes.iter_mut().skip(3000).for_each(|byte| *byte = 0);
+        }
+        Rereading.answer(tables, &call)
+    }
+}
+
+#[test]
+fn a_byte_of_a_long_attribute_is_found() {
+    let case = sweep(&mut FirstBytes, 1, &mut Tally::default());
+    let (case, difference) = shortened(&mut FirstBytes, case);
+    let text = scenario(&case, &difference);
+    let [Step::Call(Call::CreateRuleset { bytes, .. })] = case.steps.as_slice() else {
+        panic!("{text}");
+    };
+    let set: Vec<usize> = (0..bytes.len()).filter(|at| bytes[*at] != 0).collect();
+    assert!(set.len() == 1 && set[0] >= 3000, "{text}");
+    assert!(text.contains("=> E2BIG\n"), "{text}");
+}
+
+#[test]
+fn the_model_does_not_differ_from_itself_and_meets_everything() {
     let options = Options {
         seed: 1,
         calls: 40_000,
         seconds: None,
     };
-    let (tally, case) = compare(&mut Rereading, &options);
-    assert_eq!(case, None);
-    assert_eq!(tally.missed(), [], "{tally}");
-    assert_eq!(tally.unbroken(), [], "{tally}");
+    let mut tally = Tally::default();
+    assert_eq!(compare(&mut Rereading, &options, &mut tally), None);
+    assert!(tally.not_met().is_empty(), "{tally}");
+}
+
+#[test]
+fn the_sweep_meets_every_length() {
+    let mut tally = Tally::default();
+    assert!(!tally.not_swept().is_empty(), "{tally}");
+    assert_eq!(sweep(&mut Rereading, 1, &mut tally), None);
+    assert!(tally.not_swept().is_empty(), "{tally}");
 }

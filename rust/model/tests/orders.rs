@@ -1,10 +1,13 @@
 //! Pairs of refusals that hold at once: the one that stands first in the order answers, and nothing
-//! changes.
+//! changes. The model is asked which refusal it is, the proved core for the number.
 
 use model::call::Call;
+use model::proved::Both;
 use model::refusal::Refusal::{self, *};
+use model::refusal::{returned, Answer};
 use model::rights::{Masks, Rights};
 use model::state::{Key, Model, Ruleset, Thread, OBJECTS_END};
+use model::tables::encode;
 
 const REGULAR: u64 = 1;
 const DIRECTORY: u64 = 2;
@@ -42,11 +45,17 @@ fn deny(model: &mut Model, fs: Rights) {
     model.close_ruleset(ruleset).unwrap();
 }
 
-/// The call is refused, and the model stays as it was.
-fn refused(model: &Model, call: Call, refusal: Refusal) {
+/// The call has the answer, and everything stays as it was.
+fn unchanged(model: &Model, call: Call, answer: Answer) {
     let mut after = model.clone();
-    assert_eq!(after.answer(&call).0, Err(refusal), "{call:?}");
+    assert_eq!(after.answer(&call).0, answer, "{call:?}");
     assert_eq!(&after, model, "{call:?}");
+    let number = Both::unchanging(&encode(model), &call);
+    assert_eq!(number, returned(answer), "{call:?}");
+}
+
+fn refused(model: &Model, call: Call, refusal: Refusal) {
+    unchanged(model, call, Err(refusal));
 }
 
 fn create_ruleset(bytes: &[u8], flags: u64) -> Call {
@@ -235,6 +244,12 @@ fn requests_order() {
     refused(&model, port(0, 80, 1), AccessDenied);
 }
 
+/// Creates files in directory 1 until no entry is free.
+fn fill_tree(model: &mut Model) {
+    while model.create(0, 1, REGULAR).is_ok() {}
+    assert_eq!(model.entries.len(), 1024);
+}
+
 #[test]
 fn create_order() {
     let create = |thread, directory, kind| Call::Create {
@@ -246,10 +261,13 @@ fn create_order() {
     refused(&model, create(8, 99, 0), ThreadNotLive);
     refused(&model, create(0, 99, 0), EntryNotLive);
     refused(&model, create(0, 3, 0), TargetNotDirectory);
-    while model.create(0, 1, REGULAR).is_ok() {}
+    fill_tree(&mut model);
     let mut denied = model.clone();
     deny(&mut denied, Rights::MAKE_REG);
-    refused(&denied, create(0, 1, 8), UnknownKind);
+    for kind in [0, 8, 1 << 63] {
+        refused(&model, create(0, 1, kind), UnknownKind);
+        refused(&denied, create(0, 1, kind), UnknownKind);
+    }
     refused(&denied, create(0, 1, REGULAR), AccessDenied);
     refused(&model, create(0, 1, REGULAR), NoFreeEntry);
     model.remove(0, 3).unwrap();
@@ -283,8 +301,11 @@ fn link_order() {
     refused(&model, link(0, 0, 99), EntryNotLive);
     refused(&model, link(0, 0, 3), RootNamed);
     refused(&model, link(0, 1, 3), TargetNotDirectory);
-    while model.create(0, 1, REGULAR).is_ok() {}
+    fill_tree(&mut model);
     refused(&model, link(0, 3, 1), NoFreeEntry);
+    let mut uneven = uneven(2);
+    fill_tree(&mut uneven);
+    refused(&uneven, link(0, 3, 2), NotContained);
     deny(&mut model, Rights::EXECUTE);
     refused(&model, link(0, 3, 2), ReferDenied);
     deny(&mut model, Rights::MAKE_REG);
@@ -325,11 +346,20 @@ fn rename_order() {
 fn rename_of_one_object_changes_nothing() {
     let mut model = sample();
     let link = model.link(0, 3, 2).unwrap();
-    let before = model.clone();
-    assert_eq!(model.rename(0, 3, 2, Some(link)), Ok(0));
-    assert_eq!(model.rename(0, 3, 1, Some(3)), Ok(0));
-    assert_eq!(model.exchange(0, 3, 2, link), Ok(0));
-    assert_eq!(model, before);
+    unchanged(&model, rename(0, 3, 2, Some(link)), Ok(0));
+    unchanged(&model, rename(0, 3, 1, Some(3)), Ok(0));
+    unchanged(&model, exchange(0, 3, 2, link), Ok(0));
+}
+
+#[test]
+fn rename_of_a_directory_in_use_over_itself_changes_nothing() {
+    let mut model = sample();
+    assert!(model.has_children(5));
+    unchanged(&model, rename(0, 5, 2, Some(5)), Ok(0));
+    unchanged(&model, exchange(0, 5, 2, 5), Ok(0));
+    deny(&mut model, Rights::REMOVE_DIR);
+    refused(&model, rename(0, 5, 2, Some(5)), AccessDenied);
+    refused(&model, exchange(0, 5, 2, 5), AccessDenied);
 }
 
 #[test]

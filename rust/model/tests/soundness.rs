@@ -1,8 +1,10 @@
 //! Each clause of soundness broken alone in otherwise sound tables.
 
+mod verdict;
+
 use model::call::{Broker, Call};
+use model::proved::Both;
 use model::random::Random;
-use model::reference::Rereading;
 use model::refusal::Errno;
 use model::rights::Rights;
 use model::sound::Unsound::{self, *};
@@ -32,27 +34,26 @@ fn sample() -> Tables {
     encode(&model)
 }
 
-/// Writing the cells breaks the clause.
-fn broken(clause: Unsound, pokes: &[(Table, usize, u64)]) {
+/// The sample with cells written.
+fn written(pokes: &[(Table, usize, u64)]) -> Tables {
     let mut tables = sample();
     for (table, cell, value) in pokes {
         tables.poke(*table, *cell, *value);
     }
-    assert_eq!(check(&tables).err(), Some(clause), "{pokes:?}");
-    let before = tables.clone();
-    let reply = Rereading.answer(&mut tables, &Call::Clone { thread: 0 });
-    assert_eq!(reply.number, Errno::EIO.returned());
-    assert_eq!(tables, before);
+    tables
+}
+
+/// Writing the cells breaks the clause.
+fn broken(clause: Unsound, pokes: &[(Table, usize, u64)]) {
+    let tables = written(pokes);
+    let case = format!("{clause:?} {pokes:?}");
+    assert_eq!(check(&tables).err(), Some(clause), "{case}");
+    verdict::unsound(&tables, &case);
 }
 
 /// Writing the cells leaves the tables sound.
 fn harmless(pokes: &[(Table, usize, u64)]) {
-    let mut tables = sample();
-    for (table, cell, value) in pokes {
-        tables.poke(*table, *cell, *value);
-    }
-    let model = check(&tables).unwrap();
-    assert_eq!(encode(&model), tables);
+    verdict::sound(&written(pokes), &format!("{pokes:?}"));
 }
 
 #[test]
@@ -154,20 +155,39 @@ fn deep_domains() {
         model.layers.push(layer);
     }
     model.threads.get_mut(&0).unwrap().youngest = Some(15);
-    assert_eq!(decode(&encode(&model)), Some(model.clone()));
+    verdict::sound(&encode(&model), "a domain of 16");
     model.threads.get_mut(&0).unwrap().youngest = Some(16);
-    assert_eq!(check(&encode(&model)).err(), Some(DomainTooDeep));
+    let tables = encode(&model);
+    assert_eq!(check(&tables).err(), Some(DomainTooDeep));
+    verdict::unsound(&tables, "a domain of 17");
+}
+
+/// The sample with a table cut, or filled up with a value.
+fn resized(table: Table, length: usize, value: u64) -> Tables {
+    let mut tables = sample();
+    tables.of_mut(table).resize(length, value);
+    tables
 }
 
 #[test]
-fn lengths() {
+fn lengths_go_before_levels() {
     for table in Table::ALL {
-        for length in [0, table.length() - 1, table.length() + 1] {
-            let mut tables = sample();
-            tables.of_mut(table).resize(length, 0);
-            assert_eq!(check(&tables).err(), Some(Lengths));
-            let reply = Rereading.answer(&mut tables, &Call::Fresh { level: 7 });
-            assert_eq!(reply.number, Errno::EIO.returned());
+        let right = table.length();
+        let odd = [
+            (0, 0),
+            (right - 1, 0),
+            (right + 1, 0),
+            (right + 1, u64::MAX),
+        ];
+        for (length, value) in odd {
+            let tables = resized(table, length, value);
+            let case = format!("{} of {length} cells, then {value}", table.name());
+            assert_eq!(check(&tables).err(), Some(Lengths), "{case}");
+            verdict::unsound(&tables, &case);
+            for level in [0, 6, 7, 1 << 63] {
+                let number = Both::unchanging(&tables, &Call::Fresh { level });
+                assert_eq!(number, Errno::EIO.returned(), "{case}, level {level}");
+            }
         }
     }
 }
@@ -178,13 +198,19 @@ fn fresh_looks_at_lengths_alone() {
     for cells in &mut tables.cells {
         cells.fill(u64::MAX);
     }
-    let before = tables.clone();
-    let reply = Rereading.answer(&mut tables, &Call::Fresh { level: 7 });
-    assert_eq!(reply.number, Errno::EINVAL.returned());
-    assert_eq!(tables, before);
-    let reply = Rereading.answer(&mut tables, &Call::Fresh { level: 6 });
-    assert_eq!(reply.number, 0);
-    assert_eq!(tables, encode(&Model::fresh(6)));
+    for level in [7, 1 << 63, u64::MAX] {
+        for tables in [&tables, &sample()] {
+            let number = Both::unchanging(tables, &Call::Fresh { level });
+            assert_eq!(number, Errno::EINVAL.returned(), "level {level}");
+        }
+    }
+    for level in 0..=6 {
+        let mut tables = tables.clone();
+        let reply = Both.answer(&mut tables, &Call::Fresh { level });
+        assert_eq!(reply.number, 0);
+        assert_eq!(tables, verdict::fresh(level));
+        verdict::sound(&tables, &format!("fresh tables, level {level}"));
+    }
 }
 
 #[test]
@@ -192,6 +218,9 @@ fn random_starts_are_sound() {
     let mut random = Random::new(7);
     for _ in 0..300 {
         let model = start(&mut random);
-        assert_eq!(check(&encode(&model)), Ok(model));
+        let tables = encode(&model);
+        assert_eq!(check(&tables), Ok(model));
+        let number = Both::unchanging(&tables, &Call::CloseRuleset { ruleset: 16 });
+        assert_eq!(number, Errno::EBADF.returned());
     }
 }

@@ -1,0 +1,137 @@
+//! The proved core as a broker, and beside the model.
+
+use crate::call::{Broker, Call, Reply};
+use crate::reference::Rereading;
+use crate::tables::Tables;
+use skeinrabbit_sys::Cells;
+
+extern "C" {
+    // The binding in skeinrabbit-sys takes reports of two cells alone.
+    fn skein_layer_rules(
+        system: *mut u64,
+        system_len: usize,
+        entries: *mut u64,
+        entries_len: usize,
+        rulesets: *mut u64,
+        rulesets_len: usize,
+        layers: *mut u64,
+        layers_len: usize,
+        pool: *mut u64,
+        pool_len: usize,
+        threads: *mut u64,
+        threads_len: usize,
+        layer: u64,
+        report: *mut u64,
+        report_len: usize,
+    ) -> u64;
+}
+
+/// The proved core.
+pub struct Core;
+
+impl Broker for Core {
+    fn answer(&mut self, tables: &mut Tables, call: &Call) -> Reply {
+        let mut report = call.unwritten_report();
+        let number = core_answer(&mut cells(tables), call, &mut report);
+        Reply { number, report }
+    }
+}
+
+/// The proved core, which must answer as the model does and leave the same cells.
+pub struct Both;
+
+impl Both {
+    /// The number that answers a call, which must change no cell.
+    pub fn unchanging(tables: &Tables, call: &Call) -> u64 {
+        let mut after = tables.clone();
+        let reply = Both.answer(&mut after, call);
+        assert!(after == *tables, "cells change: {call:?}");
+        reply.number
+    }
+}
+
+impl Broker for Both {
+    fn answer(&mut self, tables: &mut Tables, call: &Call) -> Reply {
+        let mut by_model = tables.clone();
+        let model = Rereading.answer(&mut by_model, call);
+        let core = Core.answer(tables, call);
+        assert_eq!(core, model, "core and model answer differently: {call:?}");
+        assert!(
+            *tables == by_model,
+            "core and model leave other cells: {call:?}"
+        );
+        core
+    }
+}
+
+fn cells(tables: &mut Tables) -> Cells<'_> {
+    let [system, entries, rulesets, layers, pool, threads] = &mut tables.cells;
+    Cells {
+        system,
+        entries,
+        rulesets,
+        layers,
+        pool,
+        threads,
+    }
+}
+
+fn layer_rules(tables: &mut Cells, layer: u64, report: &mut [u64]) -> u64 {
+    // The pointers and lengths are those of slices that nothing else holds meanwhile.
+    unsafe {
+        skein_layer_rules(
+            tables.system.as_mut_ptr(),
+            tables.system.len(),
+            tables.entries.as_mut_ptr(),
+            tables.entries.len(),
+            tables.rulesets.as_mut_ptr(),
+            tables.rulesets.len(),
+            tables.layers.as_mut_ptr(),
+            tables.layers.len(),
+            tables.pool.as_mut_ptr(),
+            tables.pool.len(),
+            tables.threads.as_mut_ptr(),
+            tables.threads.len(),
+            layer,
+            report.as_mut_ptr(),
+            report.len(),
+        )
+    }
+}
+
+/// Calls the core's function for each of the calls with numbers alone.
+macro_rules! core_answer {
+    (
+        $tables:ident, $call:ident, $report:ident;
+        $($variant:ident $function:ident($($field:ident),*);)*
+    ) => {
+        match *$call {
+            Call::CreateRuleset { ref bytes, flags } => {
+                skeinrabbit_sys::create_ruleset($tables, bytes, flags)
+            }
+            Call::LayerRules { layer, .. } => layer_rules($tables, layer, $report),
+            $(Call::$variant { $($field),* } => skeinrabbit_sys::$function($tables, $($field),*),)*
+        }
+    };
+}
+
+fn core_answer(tables: &mut Cells, call: &Call, report: &mut [u64]) -> u64 {
+    core_answer! {
+        tables, call, report;
+        Fresh fresh(level);
+        CloseRuleset close_ruleset(ruleset);
+        AddPathRule add_path_rule(ruleset, entry, rights, flags);
+        AddPortRule add_port_rule(ruleset, port, rights, flags);
+        Restrict restrict(thread, ruleset, flags);
+        Clone clone(thread);
+        SetNoNewPrivs set_no_new_privs(thread);
+        SetAdmin set_admin(thread, on);
+        Access access(thread, entry, rights);
+        Port port(thread, port, rights);
+        Create create(thread, directory, kind);
+        Remove remove(thread, entry);
+        Link link(thread, source, directory);
+        Rename rename(thread, source, directory, replaces, entry);
+        Exchange exchange(thread, source, directory, entry);
+    }
+}

@@ -1,0 +1,285 @@
+//! Tables at the limits: sound ones and what calls answer there, and ones just past a limit.
+
+mod verdict;
+
+use model::call::{Broker, Call, UNWRITTEN};
+use model::proved::Both;
+use model::refusal::Errno::{self, *};
+use model::tables::Table::{self, *};
+use model::tables::Tables;
+use std::ops::Range;
+use verdict::{fresh, sound, unsound};
+
+const REGULAR: u64 = 1;
+const DIRECTORY: u64 = 2;
+/// A rule's type.
+const PORT: u64 = 2;
+/// A mask or a rule's rights.
+const BIND_TCP: u64 = 1;
+const WRITE_FILE: u64 = 2;
+
+/// Writes the first cells of rows.
+fn write<const N: usize>(
+    tables: &mut Tables,
+    table: Table,
+    rows: Range<u64>,
+    row: impl Fn(u64) -> [u64; N],
+) {
+    for number in rows {
+        let first = table.width() * number as usize;
+        tables.of_mut(table)[first..first + N].copy_from_slice(&row(number));
+    }
+}
+
+/// Tables with a cell written.
+fn poked(mut tables: Tables, table: Table, row: usize, column: usize, value: u64) -> Tables {
+    tables.of_mut(table)[table.width() * row + column] = value;
+    tables
+}
+
+/// Both answer a call with a success.
+fn succeeds(tables: &mut Tables, call: Call, number: u64) {
+    assert_eq!(Both.answer(tables, &call).number, number, "{call:?}");
+}
+
+/// Both refuse a call and change no cell.
+fn refused(tables: &Tables, call: Call, errno: Errno) {
+    let number = Both::unchanging(tables, &call);
+    assert_eq!(number, errno.returned(), "{call:?}");
+}
+
+/// Creates a file in the root.
+fn create() -> Call {
+    Call::Create {
+        thread: 0,
+        directory: 0,
+        kind: REGULAR,
+    }
+}
+
+fn remove(entry: u64) -> Call {
+    Call::Remove { thread: 0, entry }
+}
+
+/// Links an entry into the root.
+fn link(source: u64) -> Call {
+    Call::Link {
+        thread: 0,
+        source,
+        directory: 0,
+    }
+}
+
+fn rename(source: u64, directory: u64) -> Call {
+    Call::Rename {
+        thread: 0,
+        source,
+        directory,
+        replaces: 0,
+        entry: 0,
+    }
+}
+
+/// Opens a ruleset that handles BIND_TCP.
+fn create_ruleset() -> Call {
+    let bytes = [0, BIND_TCP].into_iter().flat_map(u64::to_le_bytes);
+    Call::CreateRuleset {
+        bytes: bytes.collect(),
+        flags: 0,
+    }
+}
+
+fn add_port_rule(ruleset: u64, port: u64) -> Call {
+    Call::AddPortRule {
+        ruleset,
+        port,
+        rights: BIND_TCP,
+        flags: 0,
+    }
+}
+
+fn restrict() -> Call {
+    Call::Restrict {
+        thread: 0,
+        ruleset: 0,
+        flags: 0,
+    }
+}
+
+/// Lets thread 0 restrict itself, and opens ruleset 0.
+fn ready_to_restrict(tables: &mut Tables) {
+    succeeds(tables, Call::SetNoNewPrivs { thread: 0 }, 0);
+    succeeds(tables, create_ruleset(), 0);
+}
+
+/// 1,023 entries beside the root, the counter after them.
+fn full_tree(row: impl Fn(u64) -> [u64; 3]) -> Tables {
+    let mut tables = poked(fresh(6), System, 0, 1, 1024);
+    write(&mut tables, Entries, 1..1024, row);
+    tables
+}
+
+#[test]
+fn entries_1024() {
+    let mut tables = full_tree(|number| [REGULAR, 0, number]);
+    sound(&tables, "1,024 entries");
+    refused(&tables, create(), ENOSPC);
+    refused(&tables, link(1), ENOSPC);
+    succeeds(&mut tables, remove(1023), 0);
+    succeeds(&mut tables, create(), 1023);
+    assert_eq!(tables.row(Entries, 1023), [REGULAR, 0, 1024]);
+}
+
+#[test]
+fn hard_links_1023() {
+    let linked = full_tree(|_| [REGULAR, 0, 1]);
+    let counter = |value| poked(linked.clone(), System, 0, 1, value);
+    unsound(&counter(1), "1,023 hard links, the counter at the object");
+    let mut tables = counter(2);
+    sound(&tables, "1,023 hard links");
+    refused(&tables, link(1023), ENOSPC);
+    succeeds(&mut tables, remove(1), 0);
+    succeeds(&mut tables, link(1023), 1);
+    assert_eq!(tables.row(Entries, 1), [REGULAR, 0, 1]);
+}
+
+#[test]
+fn depth_1023() {
+    let deep = full_tree(|number| [DIRECTORY, number - 1, number]);
+    sound(&deep, "1,023 deep");
+    refused(&deep, remove(1022), ENOTEMPTY);
+    refused(&deep, rename(1, 1023), EINVAL);
+    refused(&deep, rename(1023, 1023), EINVAL);
+    let mut moved = deep.clone();
+    succeeds(&mut moved, rename(1023, 0), 0);
+    assert_eq!(moved, poked(deep.clone(), Entries, 1023, 1, 0));
+    let ring = poked(deep.clone(), Entries, 1, 1, 1023);
+    unsound(&ring, "a ring of 1,023");
+    let linked = poked(deep, Entries, 1023, 2, 1);
+    unsound(&linked, "the deepest entry of the first one's object");
+}
+
+/// A file, and the counter.
+fn one_file(object: u64, counter: u64) -> Tables {
+    let mut tables = poked(fresh(6), System, 0, 1, counter);
+    write(&mut tables, Entries, 1..2, |_| [REGULAR, 0, object]);
+    tables
+}
+
+#[test]
+fn object_numbers_end() {
+    let end = 1 << 32;
+    let mut tables = one_file(end - 1, end);
+    sound(&tables, "object 4,294,967,295");
+    refused(&tables, create(), ENOSPC);
+    succeeds(&mut tables, link(1), 2);
+    assert_eq!(tables.row(Entries, 2), [REGULAR, 0, end - 1]);
+    unsound(&one_file(end, end), "object 4,294,967,296");
+    unsound(&one_file(1, end + 1), "counter 4,294,967,297");
+    let mut before = poked(fresh(6), System, 0, 1, end - 1);
+    succeeds(&mut before, create(), 1);
+    assert_eq!(before, one_file(end - 1, end));
+}
+
+#[test]
+fn rulesets_16_the_last_of_64_rules() {
+    let mut tables = fresh(6);
+    write(&mut tables, Rulesets, 0..16, |_| [0, BIND_TCP]);
+    tables = poked(tables, Rulesets, 15, 3, 64);
+    let rules: Vec<u64> = (0..64).flat_map(|port| [PORT, port, BIND_TCP]).collect();
+    tables.of_mut(Rulesets)[196 * 15 + 4..].copy_from_slice(&rules);
+    sound(&tables, "16 rulesets, the last of 64 rules");
+    refused(&tables, create_ruleset(), EMFILE);
+    refused(&tables, add_port_rule(15, 64), E2BIG);
+    assert_eq!(Both::unchanging(&tables, &add_port_rule(15, 63)), 0);
+    let twice = poked(tables, Rulesets, 15, 4 + 3 * 63 + 1, 0);
+    unsound(&twice, "the 64th rule for the first one's port");
+}
+
+#[test]
+fn layers_64() {
+    let mut tables = poked(fresh(6), System, 0, 2, 64);
+    write(&mut tables, Layers, 0..64, |_| [0, WRITE_FILE]);
+    sound(&tables, "64 layers");
+    let free = poked(tables.clone(), System, 0, 2, 63);
+    unsound(&free, "64 layers, 63 in use");
+    ready_to_restrict(&mut tables);
+    refused(&tables, restrict(), ENOMEM);
+}
+
+/// 16 layers of 64 rules, each rule for a port of its own.
+fn full_pool() -> Tables {
+    let mut tables = fresh(6);
+    write(&mut tables, System, 0..1, |_| [6, 1, 16, 1024]);
+    write(&mut tables, Layers, 0..16, |number| {
+        [0, 0, BIND_TCP, 0, 64 * number, 64]
+    });
+    write(&mut tables, Pool, 0..1024, |number| {
+        [PORT, number, BIND_TCP]
+    });
+    tables
+}
+
+#[test]
+fn pool_full() {
+    let mut tables = full_pool();
+    sound(&tables, "a full pool");
+    ready_to_restrict(&mut tables);
+    let mut without_rules = tables.clone();
+    succeeds(&mut without_rules, restrict(), 0);
+    succeeds(&mut tables, add_port_rule(0, 80), 0);
+    refused(&tables, restrict(), ENOMEM);
+}
+
+#[test]
+fn reports_of_any_length() {
+    let report = |layer, report| {
+        let call = Call::LayerRules { layer, report };
+        Both.answer(&mut full_pool(), &call).report
+    };
+    assert_eq!(report(15, 0), []);
+    assert_eq!(report(15, 1), [3 * 960]);
+    assert_eq!(report(15, 2), [3 * 960, 3 * 64]);
+    assert_eq!(report(15, 3), [3 * 960, 3 * 64, UNWRITTEN]);
+    assert_eq!(report(16, 1), [0]);
+    assert_eq!(report(16, 4), [0, 0, UNWRITTEN, UNWRITTEN]);
+}
+
+#[test]
+fn overlaps_at_the_end_of_the_pool() {
+    let run = |layer, first| poked(full_pool(), Layers, layer, 4, first);
+    unsound(&run(15, 959), "the last run one rule early");
+    unsound(&run(15, 961), "the last run one rule late");
+    unsound(&run(14, 897), "the run before the last one rule late");
+    unsound(&run(0, 960), "the first run on the last one");
+    let short = poked(run(15, 1023), Layers, 15, 5, 1);
+    sound(&short, "a last run of the last rule alone");
+    let both = poked(poked(short, Layers, 14, 4, 1023), Layers, 14, 5, 1);
+    unsound(&both, "two runs of the last rule");
+}
+
+/// A chain of layers, the youngest of thread 0's domain being the given one, counted from 1.
+fn chain(layers: u64, youngest: u64) -> Tables {
+    let mut tables = poked(fresh(6), System, 0, 2, layers);
+    write(&mut tables, Layers, 0..layers, |number| {
+        [number, WRITE_FILE]
+    });
+    poked(tables, Threads, 0, 1, youngest)
+}
+
+#[test]
+fn layers_to_a_domain() {
+    let mut full = chain(16, 16);
+    sound(&full, "16 layers to a domain");
+    unsound(&chain(17, 17), "17 layers to a domain");
+    let mut longer = chain(17, 16);
+    sound(&longer, "17 layers in a row, in no thread's domain");
+    for tables in [&mut full, &mut longer] {
+        ready_to_restrict(tables);
+        refused(tables, restrict(), E2BIG);
+    }
+    let mut room = chain(15, 15);
+    ready_to_restrict(&mut room);
+    succeeds(&mut room, restrict(), 0);
+    assert_eq!(room.row(Threads, 0), [1, 16, 1, 0]);
+}
