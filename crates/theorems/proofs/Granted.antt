@@ -1,12 +1,12 @@
 -- What a thread holds is what its requests are granted. Assumes nothing.
 use mathlib.Core.Path.{_≡_, refl, sym, ap, _∙_}
 use mathlib.Core.Bool.{Bool, true, false, not, cond, _&&_}
-use mathlib.Core.List.{List}
+use mathlib.Core.List.{List, [], _∷_, _++_}
 use Prim.Native.Nat.{ℕ}
 use native.Mathlib.Omega.{arith}
 use borrow.Author.Tests.{not-false}
 use Rattle.laws.specs.Tests.{elem, any}
-use Rattle.laws.specs.Refusals.{Check, first}
+use Rattle.laws.specs.Refusals.{Check, _⇒_, first}
 use Rattle.laws.proofs.Bools.{and-l, and-r, both, not-of-false, not-of-true, clash, split}
 use Rattle.laws.proofs.Tests.{any-find, any-at}
 use Rattle.laws.proofs.Refusals.{passed, join-go}
@@ -99,7 +99,8 @@ module _ (T : Tables) (t e m : ℕ) (names : first (accessNames (T .entries) (T 
 
   access-first : first (accessChecks T t e m) ≡ cond lacking EACCES 0
   unfolding accessChecks accessNames accessMask first
-  access-first = sym (join-go (accessNames es (T .threads) t e) _ tt refl names (join-go (accessMask es e m) _ tt refl mask refl))
+  access-first =
+      sym (join-go (accessNames es (T .threads) t e) (accessMask es e m ++ (lacking ⇒ EACCES ∷ [])) tt refl names (join-go (accessMask es e m) (lacking ⇒ EACCES ∷ []) tt refl mask refl))
 
   abbrev layer : ℕ → Layer
   layer l = layerAt (T .layers) (T .pool) l
@@ -123,7 +124,7 @@ module _ (T : Tables) (t p m : ℕ) (form : first (portForm (T .threads) t p m) 
 
   port-first : first (portChecks T t p m) ≡ cond lacking-port EACCES 0
   unfolding portChecks portForm first
-  port-first = sym (join-go (portForm (T .threads) t p m) _ tt refl form refl)
+  port-first = sym (join-go (portForm (T .threads) t p m) (lacking-port ⇒ EACCES ∷ []) tt refl form refl)
 
   port-held : lacking-port ≡ false → (i : ℕ) → has m i ≡ true → portGrants T (domainOf T t) p i ≡ true
   unfolding portGrants
@@ -138,6 +139,6 @@ module _ (T : Tables) (t p m : ℕ) (form : first (portForm (T .threads) t p m) 
 pub rights-answered : RightsAnswered
 unfolding outcomeOf accessCall portCall
 rights-answered = record {
-  access = λ T t e m h a b. judged (lacking T t e m a b) (last-check T (accessChecks T t e m) _ h (access-first T t e m a b)) (access-all T t e m a b) (access-held T t e m a b);
-  ports = λ T t p m h a. judged (lacking-port T t p m a) (last-check T (portChecks T t p m) _ h (port-first T t p m a)) (port-all T t p m a) (port-held T t p m a);
+  access = λ T t e m h a b. judged (lacking T t e m a b) (last-check T (accessChecks T t e m) (lacking T t e m a b) h (access-first T t e m a b)) (access-all T t e m a b) (access-held T t e m a b);
+  ports = λ T t p m h a. judged (lacking-port T t p m a) (last-check T (portChecks T t p m) (lacking-port T t p m a) h (port-first T t p m a)) (port-all T t p m a) (port-held T t p m a);
 }

@@ -5,27 +5,6 @@ use crate::reference::Rereading;
 use crate::tables::Tables;
 use skeinrabbit_sys::Cells;
 
-extern "C" {
-    // The binding in skeinrabbit-sys takes reports of two cells alone.
-    fn skein_layer_rules(
-        system: *mut u64,
-        system_len: usize,
-        entries: *mut u64,
-        entries_len: usize,
-        rulesets: *mut u64,
-        rulesets_len: usize,
-        layers: *mut u64,
-        layers_len: usize,
-        pool: *mut u64,
-        pool_len: usize,
-        threads: *mut u64,
-        threads_len: usize,
-        layer: u64,
-        report: *mut u64,
-        report_len: usize,
-    ) -> u64;
-}
-
 /// The proved core.
 pub struct Core;
 
@@ -76,29 +55,6 @@ fn cells(tables: &mut Tables) -> Cells<'_> {
     }
 }
 
-fn layer_rules(tables: &mut Cells, layer: u64, report: &mut [u64]) -> u64 {
-    // The pointers and lengths are those of slices that nothing else holds meanwhile.
-    unsafe {
-        skein_layer_rules(
-            tables.system.as_mut_ptr(),
-            tables.system.len(),
-            tables.entries.as_mut_ptr(),
-            tables.entries.len(),
-            tables.rulesets.as_mut_ptr(),
-            tables.rulesets.len(),
-            tables.layers.as_mut_ptr(),
-            tables.layers.len(),
-            tables.pool.as_mut_ptr(),
-            tables.pool.len(),
-            tables.threads.as_mut_ptr(),
-            tables.threads.len(),
-            layer,
-            report.as_mut_ptr(),
-            report.len(),
-        )
-    }
-}
-
 /// Calls the core's function for each of the calls with numbers alone.
 macro_rules! core_answer {
     (
@@ -109,7 +65,9 @@ macro_rules! core_answer {
             Call::CreateRuleset { ref bytes, flags } => {
                 skeinrabbit_sys::create_ruleset($tables, bytes, flags)
             }
-            Call::LayerRules { layer, .. } => layer_rules($tables, layer, $report),
+            Call::LayerRules { layer, .. } => {
+                skeinrabbit_sys::layer_rules($tables, layer, $report)
+            }
             $(Call::$variant { $($field),* } => skeinrabbit_sys::$function($tables, $($field),*),)*
         }
     };

@@ -125,8 +125,9 @@ pub fn create_ruleset(tables: &mut Cells, bytes: &[u8], flags: u64) -> u64 {
     )
 }
 
-/// Where a layer's rules stand in the pool: the first cell and the number of cells, written to `part`; zeros with a refusal.
-pub fn layer_rules(tables: &mut Cells, layer: u64, part: &mut [u64; 2]) -> u64 {
+/// Where a layer's rules stand in the pool: the first cell and the number of cells, written to the first two cells of `part` as
+/// far as it has them; zeros with a refusal.
+pub fn layer_rules(tables: &mut Cells, layer: u64, part: &mut [u64]) -> u64 {
     pass!(
         skein_layer_rules,
         tables,
