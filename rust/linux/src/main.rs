@@ -4,6 +4,7 @@
 //! 1 at a difference of no known class, with the scenario printed; 2 if the comparison could not be made.
 
 mod broker;
+mod call;
 mod differences;
 mod generate;
 mod kernel;
@@ -12,7 +13,6 @@ mod machine;
 mod operation;
 mod orders;
 mod random;
-mod request;
 mod rights;
 mod scenario;
 mod sys;
