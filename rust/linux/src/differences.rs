@@ -312,3 +312,145 @@ fn not_a_device(d: &Answers) -> bool {
         && d.linux == 0
         && d.ours == -EACCES
 }
+
+#[cfg(test)]
+mod tests {
+    use super::*;
+    use model::refusal::returned;
+    use model::state::Model;
+
+    /// A directory, with a symlink, a fifo and a directory in it, and a regular file in that one.
+    const UPPER: u64 = 1;
+    const LINK: u64 = 2;
+    const PIPE: u64 = 3;
+    const LOWER: u64 = 4;
+    const FILE: u64 = 5;
+    /// A thread without a layer, and one whose layer handles every right and grants none.
+    const FREE: u64 = 0;
+    const CONFINED: u64 = 1;
+
+    /// The tree and the threads, on our side and on the model's.
+    fn sides() -> (Broker, Model) {
+        let (mut tables, mut model) = (Broker::new(TOP_LEVEL), Model::fresh(TOP_LEVEL));
+        let create = |directory, kind| Call::Create {
+            thread: FREE,
+            directory,
+            kind,
+        };
+        let calls = [
+            create(0, DIRECTORY),
+            create(UPPER, SYMLINK),
+            create(UPPER, FIFO),
+            create(UPPER, DIRECTORY),
+            create(LOWER, REGULAR),
+            Call::Clone { thread: FREE },
+            Call::CreateRuleset {
+                bytes: known(TOP_LEVEL)[0].to_le_bytes().to_vec(),
+                flags: 0,
+            },
+            Call::SetNoNewPrivs { thread: CONFINED },
+            Call::Restrict {
+                thread: CONFINED,
+                ruleset: 0,
+                flags: 0,
+            },
+        ];
+        for call in &calls {
+            assert!(tables.ask(call) >= 0, "{call:?}");
+            assert!(model.answer(call).0.is_ok(), "{call:?}");
+        }
+        (tables, model)
+    }
+
+    /// How answers of ours and of Linux compare, the model being asked.
+    fn compared(call: &Call, ours: i64, linux: i64) -> Comparison {
+        let (tables, mut model) = sides();
+        compare(&Answers {
+            tables: &tables,
+            call,
+            ours,
+            model: returned(model.answer(call).0) as i64,
+            linux,
+        })
+    }
+
+    fn class(name: &str) -> Comparison {
+        let place = CLASSES.iter().position(|class| class.name == name);
+        Comparison::Known(place.expect("a class of this name"))
+    }
+
+    fn access(thread: u64, entry: u64, rights: u64) -> Call {
+        Call::Access {
+            thread,
+            entry,
+            rights,
+        }
+    }
+
+    /// The file over the directory that it stands below.
+    fn rename(thread: u64) -> Call {
+        Call::Rename {
+            thread,
+            source: FILE,
+            directory: 0,
+            replaces: 1,
+            entry: UPPER,
+        }
+    }
+
+    /// Calls whose verdict Linux does not show: the class, the call of a thread, Linux's answer, and ours where nothing is denied.
+    const HIDDEN: [(&str, fn(u64) -> Call, i64, i64); 4] = [
+        ("symlink-opened", |t| access(t, LINK, READ_FILE), -ELOOP, 0),
+        (
+            "directory-as-file",
+            |t| access(t, UPPER, TRUNCATE),
+            -EISDIR,
+            0,
+        ),
+        (
+            "not-a-regular-file",
+            |t| access(t, PIPE, TRUNCATE),
+            -EINVAL,
+            0,
+        ),
+        ("replaced-above-source", rename, -ENOTEMPTY, -EISDIR),
+    ];
+
+    #[test]
+    fn the_right_verdict_is_of_the_class() {
+        for (name, call, linux, granted) in HIDDEN {
+            assert_eq!(compared(&call(FREE), granted, linux), class(name));
+            assert_eq!(compared(&call(CONFINED), -EACCES, linux), class(name));
+        }
+    }
+
+    #[test]
+    fn a_wrong_verdict_is_unknown() {
+        for (name, call, linux, granted) in HIDDEN {
+            let wrong_grant = compared(&call(CONFINED), granted, linux);
+            assert_eq!(wrong_grant, Comparison::Unknown, "{name}");
+            let wrong_refusal = compared(&call(FREE), -EACCES, linux);
+            assert_eq!(wrong_refusal, Comparison::Unknown, "{name}");
+        }
+    }
+
+    /// Linux refuses to execute a directory or a fifo with the number of a denied right.
+    #[test]
+    fn a_wrong_verdict_on_executing_is_unknown() {
+        for (entry, name) in [(UPPER, "directory-as-file"), (PIPE, "not-a-regular-file")] {
+            let execute =
+                |thread, ours| compared(&access(thread, entry, READ_FILE | EXECUTE), ours, -EACCES);
+            assert_eq!(execute(FREE, 0), class(name));
+            assert_eq!(execute(FREE, -EACCES), Comparison::Unknown, "{name}");
+            assert_eq!(execute(CONFINED, -EACCES), Comparison::Agree);
+            assert_eq!(execute(CONFINED, 0), Comparison::Unknown, "{name}");
+        }
+    }
+
+    #[test]
+    fn another_new_number_is_unknown() {
+        let call = Call::Clone { thread: FREE };
+        assert_eq!(compared(&call, 2, 0), Comparison::Agree);
+        assert_eq!(compared(&call, 3, 0), Comparison::Unknown);
+    }
+}
