@@ -106,13 +106,17 @@ impl Machine {
 }
 
 /// What no machine compares, with the reason.
-pub const LEFT_OUT: [&str; 6] = [
+pub const LEFT_OUT: [&str; 9] = [
     "EOPNOTSUPP (level 0): Landlock cannot be switched off in a running kernel",
+    "EINVAL and E2BIG for what only a higher level knows: a kernel has one level",
     "EIO: the kernel's own state cannot be damaged from outside",
     "ESRCH: a thread that is not live makes no system call",
+    "ENOSPC: a file system has no such table of entries, nor object numbers",
     "layer_rules: the kernel does not show a domain's rules",
+    "scopes: rulesets have them, but signals and abstract sockets are not tried, since the tables only store scopes",
     "opening block devices: an open may load a driver",
-    "arguments without a counterpart: entries not in the directory named, rights that no single operation asks for",
+    "arguments without a counterpart: entries not in the directory named, ports above 65,535 in a question about a port, rights that no \
+     single operation asks for",
 ];
 
 fn create(kind: u64, path: &str) -> i64 {
