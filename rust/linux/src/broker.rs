@@ -1,7 +1,7 @@
 //! Our side: the proved core on tables of its own.
 
-use crate::request::Request;
 use crate::rights::*;
+use model::call::Call;
 use skeinrabbit_sys::{self as core, Cells, SIZES};
 
 /// The six tables.
@@ -26,13 +26,24 @@ pub const MAX_LAYERS: u64 = 64;
 pub const MAX_POOL_RULES: u64 = 1024;
 pub const MAX_THREADS: u64 = 8;
 
+/// Calls the core's function for each of the calls.
+macro_rules! core_answer {
+    ($tables:ident, $call:ident; $($variant:ident $function:ident($($argument:ident),*);)*) => {
+        match *$call {
+            Call::CreateRuleset { ref bytes, flags } => core::create_ruleset($tables, bytes, flags),
+            Call::LayerRules { .. } => unreachable!("Linux does not show a layer's rules"),
+            $(Call::$variant { $($argument),* } => core::$function($tables, $($argument),*),)*
+        }
+    };
+}
+
 impl Broker {
     /// Fresh tables at a level.
     pub fn new(level: u64) -> Broker {
         let mut broker = Broker {
             tables: SIZES.map(|cells| vec![0; cells]),
         };
-        let answer = core::fresh(&mut broker.cells(), level);
+        let answer = broker.ask(&Call::Fresh { level });
         assert_eq!(answer, 0, "fresh tables at level {level}");
         broker
     }
@@ -50,37 +61,25 @@ impl Broker {
     }
 
     /// Makes the call; the success number or a negative error number.
-    pub fn ask(&mut self, request: &Request) -> i64 {
-        let t = &mut self.cells();
-        let answer = match *request {
-            Request::CreateRuleset { ref attr, flags } => core::create_ruleset(t, attr, flags),
-            Request::CloseRuleset { ruleset } => core::close_ruleset(t, ruleset),
-            Request::AddPathRule {
-                ruleset,
-                entry,
-                rights,
-                flags,
-            } => core::add_path_rule(t, ruleset, entry, rights, flags),
-            Request::AddPortRule {
-                ruleset,
-                port,
-                rights,
-                flags,
-            } => core::add_port_rule(t, ruleset, port, rights, flags),
-            Request::Restrict {
-                thread,
-                ruleset,
-                flags,
-            } => core::restrict(t, thread, ruleset, flags),
-            Request::Clone { thread } => core::clone(t, thread),
-            Request::SetNoNewPrivs { thread } => core::set_no_new_privs(t, thread),
-            Request::SetAdmin { thread, on } => core::set_admin(t, thread, on.into()),
-            Request::Port {
-                thread,
-                port,
-                rights,
-            } => core::port(t, thread, port, rights),
-            _ => ask_on_files(t, request),
+    pub fn ask(&mut self, call: &Call) -> i64 {
+        let tables = &mut self.cells();
+        let answer = core_answer! {
+            tables, call;
+            Fresh fresh(level);
+            CloseRuleset close_ruleset(ruleset);
+            AddPathRule add_path_rule(ruleset, entry, rights, flags);
+            AddPortRule add_port_rule(ruleset, port, rights, flags);
+            Restrict restrict(thread, ruleset, flags);
+            Clone clone(thread);
+            SetNoNewPrivs set_no_new_privs(thread);
+            SetAdmin set_admin(thread, on);
+            Access access(thread, entry, rights);
+            Port port(thread, port, rights);
+            Create create(thread, directory, kind);
+            Remove remove(thread, entry);
+            Link link(thread, source, directory);
+            Rename rename(thread, source, directory, replaces, entry);
+            Exchange exchange(thread, source, directory, entry);
         };
         answer as i64
     }
@@ -187,43 +186,5 @@ impl Broker {
         } else {
             self.nearest_with_fs(self.cell(LAYERS, LAYER_CELLS, layer - 1, 0))
         }
-    }
-}
-
-/// Access requests and the calls that may change the tree.
-fn ask_on_files(t: &mut Cells, request: &Request) -> u64 {
-    match *request {
-        Request::Access {
-            thread,
-            entry,
-            rights,
-        } => core::access(t, thread, entry, rights),
-        Request::Create {
-            thread,
-            directory,
-            kind,
-        } => core::create(t, thread, directory, kind),
-        Request::Remove { thread, entry } => core::remove(t, thread, entry),
-        Request::Link {
-            thread,
-            source,
-            directory,
-        } => core::link(t, thread, source, directory),
-        Request::Rename {
-            thread,
-            source,
-            directory,
-            replaced,
-        } => {
-            let (replaces, entry) = replaced.map_or((0, 0), |entry| (1, entry));
-            core::rename(t, thread, source, directory, replaces, entry)
-        }
-        Request::Exchange {
-            thread,
-            source,
-            directory,
-            other,
-        } => core::exchange(t, thread, source, directory, other),
-        _ => unreachable!("{request} is asked elsewhere"),
     }
 }

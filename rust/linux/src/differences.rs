@@ -1,15 +1,27 @@
 //! The classes of difference that document 01 decides otherwise than Linux, each with its sentence.
 
 use crate::broker::{Broker, MAX_LAYERS, MAX_POOL_RULES, MAX_RULES, MAX_THREADS};
-use crate::request::Request;
 use crate::rights::*;
+use model::call::Call;
 
-/// A request that the two sides answered differently. Successes are 0; the tables are those before the call.
-pub struct Difference<'a> {
+/// What a call was answered. The tables are those before it.
+#[derive(Clone, Copy)]
+pub struct Answers<'a> {
     pub tables: &'a Broker,
-    pub request: &'a Request,
+    pub call: &'a Call,
     pub ours: i64,
+    /// The independent model's answer, after the same calls.
+    pub model: i64,
     pub linux: i64,
+}
+
+/// How the answers stand to each other.
+#[derive(PartialEq, Eq, Debug)]
+pub enum Comparison {
+    Agree,
+    /// Linux alone answers otherwise, for the reason of the class at this place.
+    Known(usize),
+    Unknown,
 }
 
 /// A known class of differences.
@@ -19,12 +31,27 @@ pub struct Class {
     pub linux: &'static str,
     /// Document 01's words that decide for us.
     pub paper: &'static str,
-    applies: fn(&Difference) -> bool,
+    /// Whether it explains answers that differ, successes among them as 0.
+    applies: fn(&Answers) -> bool,
 }
 
-/// The place of the first class that explains a difference.
-pub fn classify(difference: &Difference) -> Option<usize> {
-    CLASSES.iter().position(|class| (class.applies)(difference))
+/// Compares: ours must be the model's answer, whatever Linux's is; Linux's may differ for the reason of a class.
+pub fn compare(answers: &Answers) -> Comparison {
+    if answers.ours != answers.model {
+        return Comparison::Unknown;
+    }
+    let outcomes = Answers {
+        ours: outcome(answers.ours),
+        linux: outcome(answers.linux),
+        ..*answers
+    };
+    if outcomes.ours == outcomes.linux {
+        return Comparison::Agree;
+    }
+    CLASSES
+        .iter()
+        .position(|class| (class.applies)(&outcomes))
+        .map_or(Comparison::Unknown, Comparison::Known)
 }
 
 pub const CLASSES: [Class; 16] = [
@@ -128,52 +155,54 @@ pub const CLASSES: [Class; 16] = [
 ];
 
 /// Without the layers that handle no file system right, the tables would answer as Linux does.
-fn refer_unasked(d: &Difference) -> bool {
-    d.ours == -EXDEV && outcome(d.tables.without_layers_without_fs().ask(d.request)) == d.linux
+fn refer_unasked(d: &Answers) -> bool {
+    d.ours == -EXDEV && outcome(d.tables.without_layers_without_fs().ask(d.call)) == d.linux
 }
 
-fn link_directory(d: &Difference) -> bool {
-    matches!(*d.request, Request::Link { source, .. } if source != 0 && d.tables.is_directory(source))
+fn link_directory(d: &Answers) -> bool {
+    matches!(*d.call, Call::Link { source, .. } if source != 0 && d.tables.is_directory(source))
         && d.ours == -EPERM
         && [-EACCES, -EXDEV].contains(&d.linux)
 }
 
-fn link_root(d: &Difference) -> bool {
-    matches!(d.request, Request::Link { source: 0, .. })
+fn link_root(d: &Answers) -> bool {
+    matches!(d.call, Call::Link { source: 0, .. })
         && d.ours == -EBUSY
         && [-ENOTDIR, -EACCES, -EXDEV, -EPERM].contains(&d.linux)
 }
 
-fn replaced_above_source(d: &Difference) -> bool {
-    let Request::Rename {
+fn replaced_above_source(d: &Answers) -> bool {
+    let Call::Rename {
         source,
-        replaced: Some(replaced),
+        replaces: 1,
+        entry,
         ..
-    } = *d.request
+    } = *d.call
     else {
         return false;
     };
-    replaced != source
+    entry != source
         && d.tables.is_live(source)
-        && d.tables.is_at_or_above(replaced, d.tables.parent(source))
+        && d.tables.is_at_or_above(entry, d.tables.parent(source))
         && d.linux == -ENOTEMPTY
         && [-EACCES, -EXDEV, -EISDIR].contains(&d.ours)
 }
 
-fn paths_before_entries(d: &Difference) -> bool {
-    let (source, directory, other) = match *d.request {
-        Request::Rename {
+fn paths_before_entries(d: &Answers) -> bool {
+    let (source, directory, other) = match *d.call {
+        Call::Rename {
             source,
             directory,
-            replaced,
+            replaces,
+            entry,
             ..
-        } => (source, directory, replaced),
-        Request::Exchange {
+        } => (source, directory, (replaces != 0).then_some(entry)),
+        Call::Exchange {
             source,
             directory,
-            other,
+            entry,
             ..
-        } => (source, directory, Some(other)),
+        } => (source, directory, Some(entry)),
         _ => return false,
     };
     let names_root = source == 0 || other == Some(0);
@@ -192,33 +221,33 @@ fn paths_before_entries(d: &Difference) -> bool {
     }
 }
 
-fn unknown_kind_first(d: &Difference) -> bool {
-    matches!(*d.request, Request::Create { kind, .. } if !(REGULAR..=SYMLINK).contains(&kind))
+fn unknown_kind_first(d: &Answers) -> bool {
+    matches!(*d.call, Call::Create { kind, .. } if !(REGULAR..=SYMLINK).contains(&kind))
         && d.linux == -EINVAL
         && [-ENOENT, -ENOTDIR].contains(&d.ours)
 }
 
-fn version_flags(d: &Difference) -> bool {
-    matches!(d.request, Request::CreateRuleset { attr, flags: 1 | 2 } if attr.is_empty())
+fn version_flags(d: &Answers) -> bool {
+    matches!(d.call, Call::CreateRuleset { bytes, flags: 1 | 2 } if bytes.is_empty())
         && d.linux == 0
         && d.ours == -EINVAL
 }
 
-fn log_flags(d: &Difference) -> bool {
-    matches!(d.request, Request::Restrict { flags: 1..8, .. })
+fn log_flags(d: &Answers) -> bool {
+    matches!(d.call, Call::Restrict { flags: 1..8, .. })
         && [0, -EBADF, -E2BIG].contains(&d.linux)
         && d.ours == -EINVAL
 }
 
-fn rules_of_a_ruleset(d: &Difference) -> bool {
-    matches!(*d.request, Request::AddPathRule { ruleset, .. } | Request::AddPortRule { ruleset, .. }
+fn rules_of_a_ruleset(d: &Answers) -> bool {
+    matches!(*d.call, Call::AddPathRule { ruleset, .. } | Call::AddPortRule { ruleset, .. }
         if d.tables.rules(ruleset) == MAX_RULES)
         && d.linux == 0
         && d.ours == -E2BIG
 }
 
-fn layer_records(d: &Difference) -> bool {
-    let Request::Restrict { ruleset, .. } = *d.request else {
+fn layer_records(d: &Answers) -> bool {
+    let Call::Restrict { ruleset, .. } = *d.call else {
         return false;
     };
     let full = d.tables.layers_used() == MAX_LAYERS
@@ -226,17 +255,17 @@ fn layer_records(d: &Difference) -> bool {
     full && d.linux == 0 && d.ours == -ENOMEM
 }
 
-fn thread_records(d: &Difference) -> bool {
-    matches!(d.request, Request::Clone { .. })
+fn thread_records(d: &Answers) -> bool {
+    matches!(d.call, Call::Clone { .. })
         && d.tables.live_threads().len() as u64 == MAX_THREADS
         && d.linux == 0
         && d.ours == -EAGAIN
 }
 
 /// The entry's kind and the rights of an access.
-fn access(d: &Difference) -> Option<(u64, u64)> {
-    match *d.request {
-        Request::Access { entry, rights, .. } => Some((d.tables.kind(entry), rights)),
+fn access(d: &Answers) -> Option<(u64, u64)> {
+    match *d.call {
+        Call::Access { entry, rights, .. } => Some((d.tables.kind(entry), rights)),
         _ => None,
     }
 }
@@ -246,11 +275,11 @@ fn is_verdict(ours: i64) -> bool {
     [0, -EACCES].contains(&ours)
 }
 
-fn symlink_opened(d: &Difference) -> bool {
+fn symlink_opened(d: &Answers) -> bool {
     access(d).is_some_and(|(kind, _)| kind == SYMLINK) && d.linux == -ELOOP && is_verdict(d.ours)
 }
 
-fn directory_as_file(d: &Difference) -> bool {
+fn directory_as_file(d: &Answers) -> bool {
     let Some((DIRECTORY, rights)) = access(d) else {
         return false;
     };
@@ -262,13 +291,13 @@ fn directory_as_file(d: &Difference) -> bool {
     rights & READ_DIR == 0 && d.linux == answer && is_verdict(d.ours)
 }
 
-fn file_as_directory(d: &Difference) -> bool {
+fn file_as_directory(d: &Answers) -> bool {
     access(d).is_some_and(|(kind, rights)| kind != DIRECTORY && rights & READ_DIR != 0)
         && d.linux == -ENOTDIR
         && d.ours == -EINVAL
 }
 
-fn not_a_regular_file(d: &Difference) -> bool {
+fn not_a_regular_file(d: &Answers) -> bool {
     let Some((CHARACTER | BLOCK | FIFO | SOCKET, rights)) = access(d) else {
         return false;
     };
@@ -277,9 +306,151 @@ fn not_a_regular_file(d: &Difference) -> bool {
     (truncated || executed) && is_verdict(d.ours)
 }
 
-fn not_a_device(d: &Difference) -> bool {
+fn not_a_device(d: &Answers) -> bool {
     access(d)
         .is_some_and(|(kind, rights)| ![CHARACTER, BLOCK].contains(&kind) && rights == IOCTL_DEV)
         && d.linux == 0
         && d.ours == -EACCES
+}
+
+#[cfg(test)]
+mod tests {
+    use super::*;
+    use model::refusal::returned;
+    use model::state::Model;
+
+    /// A directory, with a symlink, a fifo and a directory in it, and a regular file in that one.
+    const UPPER: u64 = 1;
+    const LINK: u64 = 2;
+    const PIPE: u64 = 3;
+    const LOWER: u64 = 4;
+    const FILE: u64 = 5;
+    /// A thread without a layer, and one whose layer handles every right and grants none.
+    const FREE: u64 = 0;
+    const CONFINED: u64 = 1;
+
+    /// The tree and the threads, on our side and on the model's.
+    fn sides() -> (Broker, Model) {
+        let (mut tables, mut model) = (Broker::new(TOP_LEVEL), Model::fresh(TOP_LEVEL));
+        let create = |directory, kind| Call::Create {
+            thread: FREE,
+            directory,
+            kind,
+        };
+        let calls = [
+            create(0, DIRECTORY),
+            create(UPPER, SYMLINK),
+            create(UPPER, FIFO),
+            create(UPPER, DIRECTORY),
+            create(LOWER, REGULAR),
+            Call::Clone { thread: FREE },
+            Call::CreateRuleset {
+                bytes: known(TOP_LEVEL)[0].to_le_bytes().to_vec(),
+                flags: 0,
+            },
+            Call::SetNoNewPrivs { thread: CONFINED },
+            Call::Restrict {
+                thread: CONFINED,
+                ruleset: 0,
+                flags: 0,
+            },
+        ];
+        for call in &calls {
+            assert!(tables.ask(call) >= 0, "{call:?}");
+            assert!(model.answer(call).0.is_ok(), "{call:?}");
+        }
+        (tables, model)
+    }
+
+    /// How answers of ours and of Linux compare, the model being asked.
+    fn compared(call: &Call, ours: i64, linux: i64) -> Comparison {
+        let (tables, mut model) = sides();
+        compare(&Answers {
+            tables: &tables,
+            call,
+            ours,
+            model: returned(model.answer(call).0) as i64,
+            linux,
+        })
+    }
+
+    fn class(name: &str) -> Comparison {
+        let place = CLASSES.iter().position(|class| class.name == name);
+        Comparison::Known(place.expect("a class of this name"))
+    }
+
+    fn access(thread: u64, entry: u64, rights: u64) -> Call {
+        Call::Access {
+            thread,
+            entry,
+            rights,
+        }
+    }
+
+    /// The file over the directory that it stands below.
+    fn rename(thread: u64) -> Call {
+        Call::Rename {
+            thread,
+            source: FILE,
+            directory: 0,
+            replaces: 1,
+            entry: UPPER,
+        }
+    }
+
+    /// Calls whose verdict Linux does not show: the class, the call of a thread, Linux's answer, and ours where nothing is denied.
+    const HIDDEN: [(&str, fn(u64) -> Call, i64, i64); 4] = [
+        ("symlink-opened", |t| access(t, LINK, READ_FILE), -ELOOP, 0),
+        (
+            "directory-as-file",
+            |t| access(t, UPPER, TRUNCATE),
+            -EISDIR,
+            0,
+        ),
+        (
+            "not-a-regular-file",
+            |t| access(t, PIPE, TRUNCATE),
+            -EINVAL,
+            0,
+        ),
+        ("replaced-above-source", rename, -ENOTEMPTY, -EISDIR),
+    ];
+
+    #[test]
+    fn the_right_verdict_is_of_the_class() {
+        for (name, call, linux, granted) in HIDDEN {
+            assert_eq!(compared(&call(FREE), granted, linux), class(name));
+            assert_eq!(compared(&call(CONFINED), -EACCES, linux), class(name));
+        }
+    }
+
+    #[test]
+    fn a_wrong_verdict_is_unknown() {
+        for (name, call, linux, granted) in HIDDEN {
+            let wrong_grant = compared(&call(CONFINED), granted, linux);
+            assert_eq!(wrong_grant, Comparison::Unknown, "{name}");
+            let wrong_refusal = compared(&call(FREE), -EACCES, linux);
+            assert_eq!(wrong_refusal, Comparison::Unknown, "{name}");
+        }
+    }
+
+    /// Linux refuses to execute a directory or a fifo with the number of a denied right.
+    #[test]
+    fn a_wrong_verdict_on_executing_is_unknown() {
+        for (entry, name) in [(UPPER, "directory-as-file"), (PIPE, "not-a-regular-file")] {
+            let execute =
+                |thread, ours| compared(&access(thread, entry, READ_FILE | EXECUTE), ours, -EACCES);
+            assert_eq!(execute(FREE, 0), class(name));
+            assert_eq!(execute(FREE, -EACCES), Comparison::Unknown, "{name}");
+            assert_eq!(execute(CONFINED, -EACCES), Comparison::Agree);
+            assert_eq!(execute(CONFINED, 0), Comparison::Unknown, "{name}");
+        }
+    }
+
+    #[test]
+    fn another_new_number_is_unknown() {
+        let call = Call::Clone { thread: FREE };
+        assert_eq!(compared(&call, 2, 0), Comparison::Agree);
+        assert_eq!(compared(&call, 3, 0), Comparison::Unknown);
+    }
 }

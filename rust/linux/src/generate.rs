@@ -1,10 +1,10 @@
-//! Random requests that make sense on both sides.
+//! Random calls that make sense on both sides.
 
 use crate::broker::{Broker, MAX_ENTRIES, MAX_RULESETS};
 use crate::machine::Machine;
 use crate::random::Random;
-use crate::request::Request;
 use crate::rights::*;
+use model::call::Call;
 
 /// Ports above the ephemeral ones, and port 0.
 pub const PORTS: [u64; 5] = [0, 61_001, 61_002, 61_003, 65_535];
@@ -14,14 +14,14 @@ const UNKNOWN_FLAGS: [u64; 2] = [1 << 16, 1 << 31];
 /// Those that turn logging on or off in landlock_restrict_self(2).
 const LOG_FLAGS: [u64; 4] = [1, 2, 4, 7];
 
-/// Chooses requests for the tables as they are.
+/// Chooses calls for the tables as they are.
 pub struct Generator<'a> {
     pub random: &'a mut Random,
     pub tables: &'a Broker,
     pub machine: &'a Machine,
 }
 
-type Choice = fn(&mut Generator) -> Request;
+type Choice = fn(&mut Generator) -> Call;
 
 const CHOICES: [(u64, Choice); 14] = [
     (24, |g| g.access()),
@@ -41,18 +41,18 @@ const CHOICES: [(u64, Choice); 14] = [
 ];
 
 impl Generator<'_> {
-    /// Any request.
-    pub fn request(&mut self) -> Request {
+    /// Any call.
+    pub fn call(&mut self) -> Call {
         let choice = self.random.weighted(&CHOICES);
         match choice(self) {
-            Request::Port { .. } if !self.machine.tcp => self.access(),
-            Request::Exchange { .. } if !self.machine.exchange => self.rename(),
-            request => request,
+            Call::Port { .. } if !self.machine.tcp => self.access(),
+            Call::Exchange { .. } if !self.machine.exchange => self.rename(),
+            call => call,
         }
     }
 
-    /// A request that lets the tree grow.
-    pub fn growth(&mut self) -> Request {
+    /// A call that lets the tree grow.
+    pub fn growth(&mut self) -> Call {
         if self.random.percent(85) {
             self.create()
         } else {
@@ -121,7 +121,7 @@ impl Generator<'_> {
     }
 
     /// An access that Linux asks by one operation; a move where the entry is of a kind that is not opened.
-    fn access(&mut self) -> Request {
+    fn access(&mut self) -> Call {
         let entry = self.entry();
         let rights = match self.tables.kind(entry) {
             DIRECTORY => self.rights_of_directory(),
@@ -138,7 +138,7 @@ impl Generator<'_> {
             rights & !EXECUTE
         };
         let thread = self.thread();
-        Request::Access {
+        Call::Access {
             thread,
             entry,
             rights,
@@ -184,36 +184,36 @@ impl Generator<'_> {
         ])
     }
 
-    fn port(&mut self) -> Request {
+    fn port(&mut self) -> Call {
         let rights = self.random.between(1, BIND_TCP | CONNECT_TCP);
-        Request::Port {
+        Call::Port {
             thread: self.thread(),
             port: self.random.pick(&PORTS),
             rights,
         }
     }
 
-    fn create(&mut self) -> Request {
-        Request::Create {
+    fn create(&mut self) -> Call {
+        Call::Create {
             thread: self.thread(),
             directory: self.directory(),
             kind: self.kind(),
         }
     }
 
-    fn remove(&mut self) -> Request {
-        Request::Remove {
+    fn remove(&mut self) -> Call {
+        Call::Remove {
             thread: self.thread(),
             entry: self.entry(),
         }
     }
 
-    fn link(&mut self) -> Request {
+    fn link(&mut self) -> Call {
         let mut source = self.entry();
         if self.tables.is_directory(source) && self.random.percent(80) {
             source = self.entry();
         }
-        Request::Link {
+        Call::Link {
             thread: self.thread(),
             source,
             directory: self.directory(),
@@ -221,32 +221,33 @@ impl Generator<'_> {
     }
 
     /// A replaced entry is live, since Linux knows it by its name.
-    fn rename(&mut self) -> Request {
+    fn rename(&mut self) -> Call {
         let mut directory = self.directory();
-        let mut replaced = None;
+        let (mut replaces, mut replaced) = (0, 0);
         if self.random.percent(50) {
             let entry = self.entry();
             if self.tables.is_live(entry) {
                 directory = self.directory_of(entry, directory);
-                replaced = Some(entry);
+                (replaces, replaced) = (1, entry);
             }
         }
-        Request::Rename {
+        Call::Rename {
             thread: self.thread(),
             source: self.entry(),
             directory,
-            replaced,
+            replaces,
+            entry: replaced,
         }
     }
 
-    fn exchange(&mut self) -> Request {
+    fn exchange(&mut self) -> Call {
         let directory = self.directory();
-        let other = self.entry();
-        Request::Exchange {
+        let entry = self.entry();
+        Call::Exchange {
             thread: self.thread(),
             source: self.entry(),
-            directory: self.directory_of(other, directory),
-            other,
+            directory: self.directory_of(entry, directory),
+            entry,
         }
     }
 
@@ -272,7 +273,7 @@ impl Generator<'_> {
         }
     }
 
-    pub fn create_ruleset(&mut self) -> Request {
+    pub fn create_ruleset(&mut self) -> Call {
         let [fs, net, scope] = known(self.tables.level());
         let masks = match self.random.below(100) {
             0..3 => [0, self.subset(net), self.subset(scope)],
@@ -280,18 +281,18 @@ impl Generator<'_> {
             60..95 => [self.subset(fs), self.subset(net), self.subset(scope)],
             _ => [fs, net, scope].map(|mask| self.subset(mask) | self.unknown_bit(mask)),
         };
-        let mut attr: Vec<u8> = masks.iter().flat_map(|mask| mask.to_le_bytes()).collect();
+        let mut bytes: Vec<u8> = masks.iter().flat_map(|mask| mask.to_le_bytes()).collect();
         let meaningless = self.machine.meaningless_byte();
         match self.random.below(100) {
             0..70 => {}
-            70..80 => attr.truncate(8 * self.random.between(1, 3) as usize),
-            80..85 => attr.truncate(self.random.below(25) as usize),
-            85..92 => attr.resize(self.random.between(24, 64) as usize, 0),
-            92..94 => attr.resize(self.random.between(4095, 4098) as usize, 0),
+            70..80 => bytes.truncate(8 * self.random.between(1, 3) as usize),
+            80..85 => bytes.truncate(self.random.below(25) as usize),
+            85..92 => bytes.resize(self.random.between(24, 64) as usize, 0),
+            92..94 => bytes.resize(self.random.between(4095, 4098) as usize, 0),
             _ => {
-                attr.resize(meaningless as usize + 1 + self.random.below(40) as usize, 0);
-                let last = attr.len() - 1;
-                attr[last] = 1;
+                bytes.resize(meaningless as usize + 1 + self.random.below(40) as usize, 0);
+                let last = bytes.len() - 1;
+                bytes[last] = 1;
             }
         }
         let flags = if self.random.percent(4) {
@@ -299,7 +300,7 @@ impl Generator<'_> {
         } else {
             0
         };
-        Request::CreateRuleset { attr, flags }
+        Call::CreateRuleset { bytes, flags }
     }
 
     /// A bit that no kernel knows, now and then, for a mask that the level has.
@@ -322,13 +323,13 @@ impl Generator<'_> {
         }
     }
 
-    fn close_ruleset(&mut self) -> Request {
-        Request::CloseRuleset {
+    fn close_ruleset(&mut self) -> Call {
+        Call::CloseRuleset {
             ruleset: self.ruleset(),
         }
     }
 
-    pub fn add_path_rule(&mut self) -> Request {
+    pub fn add_path_rule(&mut self) -> Call {
         let ruleset = self.ruleset();
         let entry = match self.random.below(100) {
             0..25 => 0,
@@ -348,7 +349,7 @@ impl Generator<'_> {
             96..98 => 0,
             _ => handled | 1 << self.random.between(16, 63),
         };
-        Request::AddPathRule {
+        Call::AddPathRule {
             ruleset,
             entry,
             rights,
@@ -356,7 +357,7 @@ impl Generator<'_> {
         }
     }
 
-    pub fn add_port_rule(&mut self) -> Request {
+    pub fn add_port_rule(&mut self) -> Call {
         let ruleset = self.ruleset();
         let handled = self.tables.handled(ruleset)[1];
         let rights = match self.random.below(100) {
@@ -369,7 +370,7 @@ impl Generator<'_> {
         } else {
             self.random.pick(&PORTS)
         };
-        Request::AddPortRule {
+        Call::AddPortRule {
             ruleset,
             port,
             rights,
@@ -385,34 +386,34 @@ impl Generator<'_> {
         }
     }
 
-    fn restrict(&mut self) -> Request {
+    fn restrict(&mut self) -> Call {
         let flags = match self.random.below(100) {
             0..3 => self.random.pick(&LOG_FLAGS),
             3..7 => self.random.pick(&UNKNOWN_FLAGS),
             _ => 0,
         };
-        Request::Restrict {
+        Call::Restrict {
             thread: self.thread(),
             ruleset: self.ruleset(),
             flags,
         }
     }
 
-    fn clone(&mut self) -> Request {
-        Request::Clone {
+    fn clone(&mut self) -> Call {
+        Call::Clone {
             thread: self.thread(),
         }
     }
 
-    fn mark(&mut self) -> Request {
+    fn mark(&mut self) -> Call {
         let thread = self.thread();
         if self.machine.admin && self.random.percent(60) {
-            Request::SetAdmin {
+            Call::SetAdmin {
                 thread,
-                on: self.random.percent(50),
+                on: self.random.percent(50).into(),
             }
         } else {
-            Request::SetNoNewPrivs { thread }
+            Call::SetNoNewPrivs { thread }
         }
     }
 }

@@ -2,10 +2,10 @@
 
 use crate::broker::{Broker, MAX_ENTRIES, MAX_RULESETS};
 use crate::operation::Operation;
-use crate::request::Request;
 use crate::rights::*;
 use crate::sys;
 use crate::task::Task;
+use model::call::Call;
 use std::ffi::c_int;
 
 /// What stands for an entry or a ruleset that is not there.
@@ -41,10 +41,10 @@ impl Kernel {
         }
     }
 
-    /// Does what the request asks, on the thread that it names. The tables are those before the call.
-    pub fn perform(&mut self, tables: &Broker, request: &Request) -> (Operation, i64) {
-        let operation = self.operation(tables, request);
-        let answer = match (&operation, thread_of(request)) {
+    /// Does what the call asks, on the thread that it names. The tables are those before the call.
+    pub fn perform(&mut self, tables: &Broker, call: &Call) -> (Operation, i64) {
+        let operation = self.operation(tables, call);
+        let answer = match (&operation, thread_of(call)) {
             (Operation::StartThread, Some(thread)) => {
                 self.started = Some(self.tasks[thread as usize].start_another());
                 0
@@ -58,35 +58,35 @@ impl Kernel {
         (operation, answer)
     }
 
-    fn operation(&mut self, tables: &Broker, request: &Request) -> Operation {
-        match *request {
-            Request::Restrict { ruleset, flags, .. } => Operation::RestrictSelf {
+    fn operation(&mut self, tables: &Broker, call: &Call) -> Operation {
+        match *call {
+            Call::Restrict { ruleset, flags, .. } => Operation::RestrictSelf {
                 ruleset: self.descriptor(ruleset),
                 flags: flags as u32,
             },
-            Request::Clone { .. } => Operation::StartThread,
-            Request::SetNoNewPrivs { .. } => Operation::SetNoNewPrivs,
-            Request::SetAdmin { on, .. } => Operation::SetAdmin { on },
-            Request::Port { port, rights, .. } => Operation::Tcp {
+            Call::Clone { .. } => Operation::StartThread,
+            Call::SetNoNewPrivs { .. } => Operation::SetNoNewPrivs,
+            Call::SetAdmin { on, .. } => Operation::SetAdmin { on: on != 0 },
+            Call::Port { port, rights, .. } => Operation::Tcp {
                 port: port as u16,
                 rights,
             },
-            _ if thread_of(request).is_none() => self.ruleset_operation(tables, request),
-            _ => self.file_operation(tables, request),
+            _ if thread_of(call).is_none() => self.ruleset_operation(tables, call),
+            _ => self.file_operation(tables, call),
         }
     }
 
-    fn ruleset_operation(&self, tables: &Broker, request: &Request) -> Operation {
-        match *request {
-            Request::CreateRuleset { ref attr, flags } => Operation::CreateRuleset {
-                attr: attr.clone(),
+    fn ruleset_operation(&self, tables: &Broker, call: &Call) -> Operation {
+        match *call {
+            Call::CreateRuleset { ref bytes, flags } => Operation::CreateRuleset {
+                attr: bytes.clone(),
                 flags: flags as u32,
                 descriptors_left: tables.open_rulesets().len() < self.rulesets.len(),
             },
-            Request::CloseRuleset { ruleset } => Operation::Close {
+            Call::CloseRuleset { ruleset } => Operation::Close {
                 fd: self.descriptor(ruleset),
             },
-            Request::AddPathRule {
+            Call::AddPathRule {
                 ruleset,
                 entry,
                 rights,
@@ -97,7 +97,7 @@ impl Kernel {
                 rights,
                 flags: flags as u32,
             },
-            Request::AddPortRule {
+            Call::AddPortRule {
                 ruleset,
                 port,
                 rights,
@@ -108,62 +108,62 @@ impl Kernel {
                 rights,
                 flags: flags as u32,
             },
-            _ => unreachable!("{request} is no request on rulesets"),
+            _ => unreachable!("{call:?} is no call on rulesets"),
         }
     }
 
-    fn file_operation(&mut self, tables: &Broker, request: &Request) -> Operation {
-        match *request {
-            Request::Access { entry, rights, .. } => {
+    fn file_operation(&mut self, tables: &Broker, call: &Call) -> Operation {
+        match *call {
+            Call::Access { entry, rights, .. } => {
                 Operation::accessing(rights, self.path(tables, entry))
                     .unwrap_or_else(|| panic!("no operation asks for the rights {rights:#x} alone"))
             }
-            Request::Create {
+            Call::Create {
                 directory, kind, ..
             } => Operation::creating(kind, self.new_path(tables, directory), &self.symlink_target),
-            Request::Remove { entry: 0, .. } => Operation::Rmdir {
+            Call::Remove { entry: 0, .. } => Operation::Rmdir {
                 path: "/".to_string(),
             },
-            Request::Remove { entry, .. } if tables.is_directory(entry) => Operation::Rmdir {
+            Call::Remove { entry, .. } if tables.is_directory(entry) => Operation::Rmdir {
                 path: self.path(tables, entry),
             },
-            Request::Remove { entry, .. } => Operation::Unlink {
+            Call::Remove { entry, .. } => Operation::Unlink {
                 path: self.path(tables, entry),
             },
-            Request::Link {
+            Call::Link {
                 source, directory, ..
             } => Operation::Link {
                 from: self.path(tables, source),
                 to: self.new_path(tables, directory),
             },
-            _ => self.rename_operation(tables, request),
+            _ => self.rename_operation(tables, call),
         }
     }
 
-    fn rename_operation(&mut self, tables: &Broker, request: &Request) -> Operation {
-        let (source, to, flags) = match *request {
-            Request::Rename {
+    fn rename_operation(&mut self, tables: &Broker, call: &Call) -> Operation {
+        let (source, to, flags) = match *call {
+            Call::Rename {
                 source,
                 directory,
-                replaced: None,
+                replaces: 0,
                 ..
             } => (source, self.new_path(tables, directory), 0),
-            Request::Rename {
+            Call::Rename {
                 source,
                 directory,
-                replaced: Some(entry),
+                entry,
                 ..
             } => (source, self.path_within(tables, directory, entry), 0),
-            Request::Exchange {
+            Call::Exchange {
                 source,
                 directory,
-                other,
+                entry,
                 ..
             } => {
-                let to = self.path_within(tables, directory, other);
+                let to = self.path_within(tables, directory, entry);
                 (source, to, sys::RENAME_EXCHANGE)
             }
-            _ => unreachable!("{request} is no move"),
+            _ => unreachable!("{call:?} is no move"),
         };
         let from = self.movable_path(tables, source);
         Operation::Rename { from, to, flags }
@@ -200,7 +200,7 @@ impl Kernel {
         }
     }
 
-    /// The path of an entry that the request names as one of a directory.
+    /// The path of an entry that the call names as one of a directory.
     fn path_within(&self, tables: &Broker, directory: u64, entry: u64) -> String {
         if entry == 0 {
             return self.movable_path(tables, entry);
@@ -223,31 +223,27 @@ impl Kernel {
         format!("n{}", self.names_given)
     }
 
-    /// Takes note of a request that both sides have granted. The tables are those before the call.
-    pub fn settle(&mut self, tables: &Broker, request: &Request, number: i64, linux: i64) {
-        match *request {
-            Request::CreateRuleset { .. } => self.rulesets[number as usize] = Some(linux as c_int),
-            Request::CloseRuleset { ruleset } => self.rulesets[ruleset as usize] = None,
-            Request::Clone { .. } => self.tasks.extend(self.started.take()),
-            Request::Create { .. } | Request::Link { .. } => {
+    /// Takes note of a call that both sides have granted. The tables are those before the call.
+    pub fn settle(&mut self, tables: &Broker, call: &Call, number: i64, linux: i64) {
+        match *call {
+            Call::CreateRuleset { .. } => self.rulesets[number as usize] = Some(linux as c_int),
+            Call::CloseRuleset { ruleset } => self.rulesets[ruleset as usize] = None,
+            Call::Clone { .. } => self.tasks.extend(self.started.take()),
+            Call::Create { .. } | Call::Link { .. } => {
                 self.names[number as usize] = self.newest_name()
             }
-            Request::Rename {
+            Call::Rename {
                 source,
-                replaced: None,
+                replaces: 0,
                 ..
             } => self.names[source as usize] = self.newest_name(),
-            Request::Rename {
-                source,
-                replaced: Some(entry),
-                ..
-            } if tables.object(source) != tables.object(entry) => {
+            Call::Rename { source, entry, .. } if tables.object(source) != tables.object(entry) => {
                 self.names[source as usize] = self.names[entry as usize].clone();
             }
-            Request::Exchange { source, other, .. }
-                if tables.object(source) != tables.object(other) =>
+            Call::Exchange { source, entry, .. }
+                if tables.object(source) != tables.object(entry) =>
             {
-                self.names.swap(source as usize, other as usize);
+                self.names.swap(source as usize, entry as usize);
             }
             _ => {}
         }
@@ -262,20 +258,20 @@ impl Drop for Kernel {
     }
 }
 
-/// The thread that makes the request; none for those on rulesets, which concern no domain.
-fn thread_of(request: &Request) -> Option<u64> {
-    match *request {
-        Request::Restrict { thread, .. }
-        | Request::Clone { thread }
-        | Request::SetNoNewPrivs { thread }
-        | Request::SetAdmin { thread, .. }
-        | Request::Access { thread, .. }
-        | Request::Port { thread, .. }
-        | Request::Create { thread, .. }
-        | Request::Remove { thread, .. }
-        | Request::Link { thread, .. }
-        | Request::Rename { thread, .. }
-        | Request::Exchange { thread, .. } => Some(thread),
+/// The thread that makes the call; none for those on rulesets, which concern no domain.
+fn thread_of(call: &Call) -> Option<u64> {
+    match *call {
+        Call::Restrict { thread, .. }
+        | Call::Clone { thread }
+        | Call::SetNoNewPrivs { thread }
+        | Call::SetAdmin { thread, .. }
+        | Call::Access { thread, .. }
+        | Call::Port { thread, .. }
+        | Call::Create { thread, .. }
+        | Call::Remove { thread, .. }
+        | Call::Link { thread, .. }
+        | Call::Rename { thread, .. }
+        | Call::Exchange { thread, .. } => Some(thread),
         _ => None,
     }
 }

@@ -1,9 +1,9 @@
 //! Scenarios that fill one table to its end.
 
 use crate::broker::{MAX_RULES, MAX_RULESETS, MAX_THREADS};
-use crate::request::Request;
 use crate::rights::*;
 use crate::scenario::{Scenario, Stop};
+use model::call::Call;
 
 /// The most layers of a domain.
 const MAX_DOMAIN: u64 = 16;
@@ -12,28 +12,28 @@ pub fn play(scenario: &mut Scenario) -> Result<(), Stop> {
     let fill = scenario
         .random
         .pick(&[rulesets, rules, domain, layers, pool, threads]);
-    scenario.ask(Request::SetNoNewPrivs { thread: 0 })?;
+    scenario.ask(Call::SetNoNewPrivs { thread: 0 })?;
     fill(scenario)
 }
 
 /// Opens a ruleset that handles everything known to the level.
 fn open_ruleset(scenario: &mut Scenario) -> Result<(), Stop> {
-    let attr = known(scenario.tables.level())
+    let bytes = known(scenario.tables.level())
         .iter()
         .flat_map(|mask| mask.to_le_bytes())
         .collect();
-    scenario.ask(Request::CreateRuleset { attr, flags: 0 })
+    scenario.ask(Call::CreateRuleset { bytes, flags: 0 })
 }
 
 /// Adds rules for new directories.
 fn add_rules(scenario: &mut Scenario, number: u64) -> Result<(), Stop> {
     for entry in 1..=number {
-        scenario.ask(Request::Create {
+        scenario.ask(Call::Create {
             thread: 0,
             directory: 0,
             kind: DIRECTORY,
         })?;
-        scenario.ask(Request::AddPathRule {
+        scenario.ask(Call::AddPathRule {
             ruleset: 0,
             entry,
             rights: READ_FILE,
@@ -45,7 +45,7 @@ fn add_rules(scenario: &mut Scenario, number: u64) -> Result<(), Stop> {
 
 fn restrict(scenario: &mut Scenario, thread: u64, times: u64) -> Result<(), Stop> {
     for _ in 0..times {
-        scenario.ask(Request::Restrict {
+        scenario.ask(Call::Restrict {
             thread,
             ruleset: 0,
             flags: 0,
@@ -59,16 +59,16 @@ fn rulesets(scenario: &mut Scenario) -> Result<(), Stop> {
     for _ in 0..=MAX_RULESETS {
         open_ruleset(scenario)?;
     }
-    scenario.ask(Request::CreateRuleset {
-        attr: vec![0; 7],
+    scenario.ask(Call::CreateRuleset {
+        bytes: vec![0; 7],
         flags: 0,
     })?;
-    scenario.ask(Request::CreateRuleset {
-        attr: vec![0; 8],
+    scenario.ask(Call::CreateRuleset {
+        bytes: vec![0; 8],
         flags: 0,
     })?;
     let ruleset = scenario.random.below(MAX_RULESETS);
-    scenario.ask(Request::CloseRuleset { ruleset })?;
+    scenario.ask(Call::CloseRuleset { ruleset })?;
     open_ruleset(scenario)?;
     open_ruleset(scenario)
 }
@@ -77,13 +77,13 @@ fn rulesets(scenario: &mut Scenario) -> Result<(), Stop> {
 fn rules(scenario: &mut Scenario) -> Result<(), Stop> {
     open_ruleset(scenario)?;
     add_rules(scenario, MAX_RULES)?;
-    scenario.ask(Request::AddPathRule {
+    scenario.ask(Call::AddPathRule {
         ruleset: 0,
         entry: 1,
         rights: READ_DIR,
         flags: 0,
     })?;
-    scenario.ask(Request::AddPathRule {
+    scenario.ask(Call::AddPathRule {
         ruleset: 0,
         entry: 0,
         rights: READ_DIR,
@@ -95,17 +95,17 @@ fn rules(scenario: &mut Scenario) -> Result<(), Stop> {
 fn domain(scenario: &mut Scenario) -> Result<(), Stop> {
     open_ruleset(scenario)?;
     restrict(scenario, 0, MAX_DOMAIN + 1)?;
-    scenario.ask(Request::Restrict {
+    scenario.ask(Call::Restrict {
         thread: 0,
         ruleset: 1,
         flags: 0,
     })?;
-    scenario.ask(Request::Restrict {
+    scenario.ask(Call::Restrict {
         thread: 0,
         ruleset: 0,
         flags: 1 << 31,
     })?;
-    scenario.ask(Request::Clone { thread: 0 })?;
+    scenario.ask(Call::Clone { thread: 0 })?;
     restrict(scenario, 1, 1)
 }
 
@@ -113,7 +113,7 @@ fn domain(scenario: &mut Scenario) -> Result<(), Stop> {
 fn layers(scenario: &mut Scenario) -> Result<(), Stop> {
     open_ruleset(scenario)?;
     for thread in 1..=5 {
-        scenario.ask(Request::Clone { thread: 0 })?;
+        scenario.ask(Call::Clone { thread: 0 })?;
         restrict(scenario, thread, MAX_DOMAIN)?;
     }
     Ok(())
@@ -123,7 +123,7 @@ fn layers(scenario: &mut Scenario) -> Result<(), Stop> {
 fn pool(scenario: &mut Scenario) -> Result<(), Stop> {
     open_ruleset(scenario)?;
     add_rules(scenario, MAX_RULES)?;
-    scenario.ask(Request::Clone { thread: 0 })?;
+    scenario.ask(Call::Clone { thread: 0 })?;
     restrict(scenario, 1, MAX_DOMAIN)?;
     restrict(scenario, 0, 1)
 }
@@ -131,7 +131,7 @@ fn pool(scenario: &mut Scenario) -> Result<(), Stop> {
 /// A ninth thread.
 fn threads(scenario: &mut Scenario) -> Result<(), Stop> {
     for _ in 0..MAX_THREADS {
-        scenario.ask(Request::Clone { thread: 0 })?;
+        scenario.ask(Call::Clone { thread: 0 })?;
     }
     Ok(())
 }

@@ -61,10 +61,13 @@ impl Machine {
         }
     }
 
-    /// What is not compared, with the reason.
-    pub fn left_out(&self) -> Vec<&'static str> {
-        let mut reasons = ALWAYS_LEFT_OUT.to_vec();
+    /// What this machine cannot compare, with what it lacks. Where there is nothing, the comparison is whole.
+    pub fn lacks(&self) -> Vec<&'static str> {
         let tests = [
+            (
+                self.abi >= TOP_LEVEL as i64,
+                "levels above the kernel's Landlock ABI",
+            ),
             (
                 self.character_devices,
                 "character devices and IOCTL_DEV: mknod(2) or open(2) of a device is not permitted",
@@ -89,19 +92,31 @@ impl Machine {
                 self.admin,
                 "the admin mark: this program has no CAP_SYS_ADMIN",
             ),
+            (
+                !self.no_new_privs,
+                "restrict without a mark: this program was started with no_new_privs",
+            ),
         ];
-        reasons.extend(tests.iter().filter(|test| !test.0).map(|test| test.1));
-        reasons
+        tests
+            .iter()
+            .filter(|test| !test.0)
+            .map(|test| test.1)
+            .collect()
     }
 }
 
-const ALWAYS_LEFT_OUT: [&str; 6] = [
+/// What no machine compares, with the reason.
+pub const LEFT_OUT: [&str; 9] = [
     "EOPNOTSUPP (level 0): Landlock cannot be switched off in a running kernel",
+    "EINVAL and E2BIG for what only a higher level knows: a kernel has one level",
     "EIO: the kernel's own state cannot be damaged from outside",
     "ESRCH: a thread that is not live makes no system call",
+    "ENOSPC: a file system has no such table of entries, nor object numbers",
     "layer_rules: the kernel does not show a domain's rules",
+    "scopes: rulesets have them, but signals and abstract sockets are not tried, since the tables only store scopes",
     "opening block devices: an open may load a driver",
-    "arguments without a counterpart: entries not in the directory named, rights that no single operation asks for",
+    "arguments without a counterpart: entries not in the directory named, ports above 65,535 in a question about a port, rights that no \
+     single operation asks for",
 ];
 
 fn create(kind: u64, path: &str) -> i64 {
@@ -110,4 +125,43 @@ fn create(kind: u64, path: &str) -> i64 {
 
 fn granted(rights: u64, path: &str) -> bool {
     Operation::accessing(rights, path.to_string()).is_some_and(|operation| operation.run() == 0)
+}
+
+#[cfg(test)]
+mod tests {
+    use super::*;
+
+    fn whole() -> Machine {
+        Machine {
+            abi: 6,
+            admin: true,
+            no_new_privs: false,
+            character_devices: true,
+            block_devices: true,
+            execve_check: true,
+            exchange: true,
+            tcp: true,
+            plain_file: String::new(),
+        }
+    }
+
+    #[test]
+    fn each_thing_that_is_lacking_is_said() {
+        assert!(whole().lacks().is_empty());
+        let lack: [fn(&mut Machine); 8] = [
+            |machine| machine.abi = 5,
+            |machine| machine.admin = false,
+            |machine| machine.no_new_privs = true,
+            |machine| machine.character_devices = false,
+            |machine| machine.block_devices = false,
+            |machine| machine.execve_check = false,
+            |machine| machine.exchange = false,
+            |machine| machine.tcp = false,
+        ];
+        for take_away in lack {
+            let mut machine = whole();
+            take_away(&mut machine);
+            assert_eq!(machine.lacks().len(), 1);
+        }
+    }
 }

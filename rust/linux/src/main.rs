@@ -1,9 +1,12 @@
-//! Plays random scenarios on the Landlock of the running kernel and on the proved core, and compares every answer.
+//! Plays random scenarios on the Landlock of the running kernel, on the proved core and on the independent model, and compares
+//! every answer.
 //!
-//! Exit status: 0 if all answers agree but for the known classes of difference (differences.rs), or if the kernel has no Landlock;
-//! 1 at a difference of no known class, with the scenario printed; 2 if the comparison could not be made.
+//! Exit status: 0 if everything was compared and all answers agree but for the known classes of difference (differences.rs); 1 at
+//! any other difference, with the scenario printed; 2 if the comparison could not be made; 77 if there was no such difference but
+//! this machine could not compare everything (machine.rs), with a line for each reason that begins with `skipped`.
 
 mod broker;
+mod call;
 mod differences;
 mod generate;
 mod kernel;
@@ -12,15 +15,14 @@ mod machine;
 mod operation;
 mod orders;
 mod random;
-mod request;
 mod rights;
 mod scenario;
 mod sys;
 mod tally;
 mod task;
 
-use machine::Machine;
-use rights::{answer_name, ENOSYS, EOPNOTSUPP};
+use machine::{Machine, LEFT_OUT};
+use rights::answer_name;
 use scenario::{Scenario, Stop};
 use std::env;
 use std::fs;
@@ -36,6 +38,7 @@ const SCENARIO_SECONDS: u32 = 60;
 
 const EXIT_UNKNOWN: u8 = 1;
 const EXIT_FAILED: u8 = 2;
+const EXIT_SKIPPED: u8 = 77;
 
 struct Arguments {
     seed: u64,
@@ -75,12 +78,12 @@ fn main() -> ExitCode {
         return ExitCode::from(EXIT_FAILED);
     };
     let abi = sys::landlock::abi();
-    if [-ENOSYS, -EOPNOTSUPP].contains(&abi) {
+    if abi < 1 {
         println!(
-            "skipped: the running kernel has no Landlock ({})",
+            "skipped: the running kernel has no Landlock, or does not permit it here ({})",
             answer_name(abi)
         );
-        return ExitCode::SUCCESS;
+        return ExitCode::from(EXIT_SKIPPED);
     }
     supervise(&arguments)
 }
@@ -128,14 +131,17 @@ fn play(arguments: &Arguments, directory: &str) -> u8 {
         machine.top_level(),
         arguments.seed
     );
-    println!("not compared here");
-    for reason in machine.left_out() {
-        println!("  {reason}");
+    for reason in LEFT_OUT {
+        println!("not compared: {reason}");
+    }
+    let lacks = machine.lacks();
+    for reason in &lacks {
+        println!("skipped in part: {reason}");
     }
     println!();
     let start = Instant::now();
     let mut tally = Tally::default();
-    let mut status = 0;
+    let mut status = if lacks.is_empty() { 0 } else { EXIT_SKIPPED };
     while tally.scenarios < arguments.scenarios
         && arguments.time.is_none_or(|time| start.elapsed() < time)
     {

@@ -1,4 +1,4 @@
-//! Linux operations that ask the kernel what a request asks the tables.
+//! Linux operations that ask the kernel what a call asks the tables.
 
 use crate::rights::*;
 use crate::sys::{self, landlock};

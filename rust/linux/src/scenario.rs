@@ -1,16 +1,19 @@
-//! One scenario: the same tree, rulesets and requests on both sides.
+//! One scenario: the same tree, rulesets and calls on both sides.
 
 use crate::broker::Broker;
-use crate::differences::{classify, Difference};
+use crate::call::{answer_text, line, may_change};
+use crate::differences::{compare, Answers, Comparison};
 use crate::generate::Generator;
 use crate::kernel::{kind_of, Kernel};
 use crate::limits;
 use crate::machine::Machine;
 use crate::orders;
 use crate::random::Random;
-use crate::request::Request;
 use crate::rights::outcome;
 use crate::tally::Tally;
+use model::call::Call;
+use model::refusal::returned;
+use model::state::Model;
 use std::collections::{BTreeMap, BTreeSet};
 use std::fs;
 use std::os::unix::fs::MetadataExt;
@@ -27,6 +30,7 @@ pub struct Scenario<'a> {
     pub random: Random,
     pub machine: &'a Machine,
     pub tables: Broker,
+    model: Model,
     kernel: Kernel,
     tally: &'a mut Tally,
     lines: Vec<String>,
@@ -46,6 +50,7 @@ impl<'a> Scenario<'a> {
             random,
             machine,
             tables: Broker::new(level),
+            model: Model::fresh(level),
             kernel: Kernel::new(root, &machine.plain_file),
             tally,
             lines: vec![format!("# seed {seed}"), format!("fresh {level}")],
@@ -66,13 +71,10 @@ impl<'a> Scenario<'a> {
     /// Gives thread 0 the marks that a new thread of this program has.
     fn align_marks(&mut self) -> Result<(), Stop> {
         if self.machine.admin {
-            self.ask(Request::SetAdmin {
-                thread: 0,
-                on: true,
-            })?;
+            self.ask(Call::SetAdmin { thread: 0, on: 1 })?;
         }
         if self.machine.no_new_privs {
-            self.ask(Request::SetNoNewPrivs { thread: 0 })?;
+            self.ask(Call::SetNoNewPrivs { thread: 0 })?;
         }
         Ok(())
     }
@@ -80,7 +82,7 @@ impl<'a> Scenario<'a> {
     fn play_random(&mut self) -> Result<(), Stop> {
         self.set_up()?;
         for _ in 0..self.random.between(40, 100) {
-            self.ask_any(|g| g.request())?;
+            self.ask_any(|g| g.call())?;
         }
         Ok(())
     }
@@ -99,12 +101,12 @@ impl<'a> Scenario<'a> {
         for _ in 0..self.random.below(4) {
             self.ask_any(|g| g.add_port_rule())?;
         }
-        self.ask(Request::Clone { thread: 0 })?;
+        self.ask(Call::Clone { thread: 0 })?;
         if self.random.percent(90) {
-            self.ask(Request::SetNoNewPrivs { thread: 1 })?;
+            self.ask(Call::SetNoNewPrivs { thread: 1 })?;
         }
         for ruleset in self.tables.open_rulesets() {
-            self.ask(Request::Restrict {
+            self.ask(Call::Restrict {
                 thread: 1,
                 ruleset,
                 flags: 0,
@@ -113,47 +115,53 @@ impl<'a> Scenario<'a> {
         Ok(())
     }
 
-    fn ask_any(&mut self, choose: fn(&mut Generator) -> Request) -> Result<(), Stop> {
-        let request = choose(&mut Generator {
+    fn ask_any(&mut self, choose: fn(&mut Generator) -> Call) -> Result<(), Stop> {
+        let call = choose(&mut Generator {
             random: &mut self.random,
             tables: &self.tables,
             machine: self.machine,
         });
-        self.ask(request)
+        self.ask(call)
     }
 
-    /// Asks both sides and compares.
-    pub fn ask(&mut self, request: Request) -> Result<(), Stop> {
+    /// Asks every side and compares.
+    pub fn ask(&mut self, call: Call) -> Result<(), Stop> {
         let before = self.tables.clone();
-        let ours = self.tables.ask(&request);
-        let (operation, linux) = self.kernel.perform(&before, &request);
+        let ours = self.tables.ask(&call);
+        let model = returned(self.model.answer(&call).0) as i64;
+        let (operation, linux) = self.kernel.perform(&before, &call);
         self.lines.push(format!(
-            "{request} => {}  # Linux: {operation:?} = {}",
-            request.answer_text(ours),
-            request.answer_text(linux)
+            "{} => {}  # model: {}; Linux: {operation:?} = {}",
+            line(&call),
+            answer_text(&call, ours),
+            answer_text(&call, model),
+            answer_text(&call, linux)
         ));
-        if outcome(ours) == outcome(linux) {
-            self.tally.agree(&request, outcome(ours));
-            if ours >= 0 {
-                self.kernel.settle(&before, &request, ours, linux);
-            }
-            return Ok(());
-        }
-        let difference = Difference {
+        let answers = Answers {
             tables: &before,
-            request: &request,
-            ours: outcome(ours),
-            linux: outcome(linux),
+            call: &call,
+            ours,
+            model,
+            linux,
         };
-        let Some(class) = classify(&difference) else {
-            return Err(self.unknown("an unknown difference in the last request"));
-        };
-        self.tally
-            .differ(class, &request, outcome(linux), outcome(ours));
-        if request.may_change() && (ours >= 0 || linux >= 0) {
-            Err(Stop::Known)
-        } else {
-            Ok(())
+        match compare(&answers) {
+            Comparison::Agree => {
+                self.tally.agree(&call, outcome(ours));
+                if ours >= 0 {
+                    self.kernel.settle(&before, &call, ours, linux);
+                }
+                Ok(())
+            }
+            Comparison::Known(class) => {
+                self.tally
+                    .differ(class, &call, outcome(linux), outcome(ours));
+                if may_change(&call) && (ours >= 0 || linux >= 0) {
+                    Err(Stop::Known)
+                } else {
+                    Ok(())
+                }
+            }
+            Comparison::Unknown => Err(self.unknown("an unknown difference in the last call")),
         }
     }
 

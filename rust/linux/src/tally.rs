@@ -1,8 +1,8 @@
 //! Counts of what was compared, and how they are printed.
 
 use crate::differences::CLASSES;
-use crate::request::Request;
 use crate::rights::answer_name;
+use model::call::Call;
 use std::collections::BTreeMap;
 
 #[derive(Default)]
@@ -19,14 +19,14 @@ pub struct Tally {
 }
 
 impl Tally {
-    pub fn agree(&mut self, request: &Request, answer: i64) {
-        *self.agreed.entry((request.call(), answer)).or_default() += 1;
+    pub fn agree(&mut self, call: &Call, answer: i64) {
+        *self.agreed.entry((call.name(), answer)).or_default() += 1;
     }
 
-    pub fn differ(&mut self, class: usize, request: &Request, linux: i64, ours: i64) {
+    pub fn differ(&mut self, class: usize, call: &Call, linux: i64, ours: i64) {
         *self
             .differed
-            .entry((class, request.call(), linux, ours))
+            .entry((class, call.name(), linux, ours))
             .or_default() += 1;
     }
 
@@ -37,7 +37,7 @@ impl Tally {
             "scenarios                {:>9}   of which stopped at a difference {}",
             self.scenarios, self.stopped
         );
-        println!("requests compared        {:>9}", agreed + differed);
+        println!("calls compared           {:>9}", agreed + differed);
         println!("  agree                  {agreed:>9}");
         println!("  differ, known class    {differed:>9}");
         println!("whole trees compared     {:>9}", self.trees);
