@@ -1,4 +1,4 @@
-// The table of entries is sound.
+// The soundness test of the entries, whose rows from `end` on are free.
 use sound_climbs::climbs_end;
 use sound_links::objects_sound;
 use sound_rows::root_sound;
