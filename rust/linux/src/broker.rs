@@ -32,6 +32,12 @@ macro_rules! core_answer {
         match *$call {
             Call::CreateRuleset { ref bytes, flags } => core::create_ruleset($tables, bytes, flags),
             Call::LayerRules { .. } => unreachable!("Linux does not show a layer's rules"),
+            Call::Access { thread, entry, rights } => {
+                core::access($tables.shared(), thread, entry, rights)
+            }
+            Call::Port { thread, port, rights } => {
+                core::port($tables.shared(), thread, port, rights)
+            }
             $(Call::$variant { $($argument),* } => core::$function($tables, $($argument),*),)*
         }
     };
@@ -73,8 +79,6 @@ impl Broker {
             Clone clone(thread);
             SetNoNewPrivs set_no_new_privs(thread);
             SetAdmin set_admin(thread, on);
-            Access access(thread, entry, rights);
-            Port port(thread, port, rights);
             Create create(thread, directory, kind);
             Remove remove(thread, entry);
             Link link(thread, source, directory);

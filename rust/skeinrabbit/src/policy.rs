@@ -140,9 +140,9 @@ impl Tables {
     /// assert_eq!(tables.layer_rules(Layer::new(1)), Err(Errno::EBADF));
     /// # Ok::<(), Errno>(())
     /// ```
-    pub fn layer_rules(&mut self, layer: Layer) -> Result<Rules<'_>, Errno> {
+    pub fn layer_rules(&self, layer: Layer) -> Result<Rules<'_>, Errno> {
         let mut part = [0; 2];
-        let raw = sys::layer_rules(&mut self.raw(), layer.number(), &mut part);
+        let raw = sys::layer_rules(self.shared(), layer.number(), &mut part);
         Errno::answer(raw)?;
         Ok(Rules::new(self.pool_part(part).unwrap_or_default()))
     }
@@ -225,9 +225,9 @@ impl Tables {
     /// assert_eq!(tables.access(Thread::MAIN, Entry::ROOT, Rights::MAKE_DIR), Err(Errno::EACCES));
     /// # Ok::<(), Errno>(())
     /// ```
-    pub fn access(&mut self, thread: Thread, entry: Entry, rights: Rights) -> Result<(), Errno> {
+    pub fn access(&self, thread: Thread, entry: Entry, rights: Rights) -> Result<(), Errno> {
         let (thread, entry) = (thread.number(), entry.number());
-        let raw = sys::access(&mut self.raw(), thread, entry, rights.bits());
+        let raw = sys::access(self.shared(), thread, entry, rights.bits());
         Errno::answer(raw).map(drop)
     }
 
@@ -251,8 +251,8 @@ impl Tables {
     /// assert_eq!(tables.port(Thread::MAIN, 81, PortRights::CONNECT_TCP), Ok(()));
     /// # Ok::<(), Errno>(())
     /// ```
-    pub fn port(&mut self, thread: Thread, port: u64, rights: PortRights) -> Result<(), Errno> {
-        let raw = sys::port(&mut self.raw(), thread.number(), port, rights.bits());
+    pub fn port(&self, thread: Thread, port: u64, rights: PortRights) -> Result<(), Errno> {
+        let raw = sys::port(self.shared(), thread.number(), port, rights.bits());
         Errno::answer(raw).map(drop)
     }
 }

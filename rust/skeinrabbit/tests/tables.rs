@@ -127,7 +127,7 @@ fn any_cells_can_be_looked_at() {
             *cell = noise.of(&[0, 1, 2, 3, 64, u64::MAX]);
         }
     }
-    let mut tables = Tables::from_cells(cells);
+    let tables = Tables::from_cells(cells);
     assert!(!tables.is_sound());
     assert!(tables.entries().count() <= 1024);
     assert!(tables
@@ -188,7 +188,7 @@ fn layered() -> Tables {
 
 #[test]
 fn the_rules_of_a_layer_are_a_part_of_the_pool() {
-    let mut tables = layered();
+    let tables = layered();
     let pool = tables.cells().pool.as_ptr_range();
     let rules = tables.layer_rules(Layer::new(0)).unwrap();
     assert!(pool.contains(&rules.cells().as_ptr()));
@@ -244,9 +244,27 @@ fn rows_show_what_the_calls_made() {
 #[test]
 fn cells_go_out_and_come_back() {
     let tables = layered();
-    let mut again = Tables::from_cells(tables.clone().into_cells());
+    let again = Tables::from_cells(tables.clone().into_cells());
     assert_eq!(again, tables);
     assert!(again.is_sound());
+}
+
+#[test]
+fn threads_of_the_program_ask_at_once() {
+    let tables = &layered();
+    let rights = [Rights::READ_DIR, Rights::MAKE_DIR];
+    std::thread::scope(|scope| {
+        for right in rights.repeat(2) {
+            scope.spawn(move || {
+                let granted = right == Rights::READ_DIR;
+                for _ in 0..100 {
+                    let answer = tables.access(Thread::MAIN, Entry::ROOT, right);
+                    assert_eq!(answer.is_ok(), granted, "{right}: {answer:?}");
+                    assert_eq!(tables.layer_rules(Layer::new(0)).unwrap().len(), 2);
+                }
+            });
+        }
+    });
 }
 
 #[test]
