@@ -1,7 +1,7 @@
 //! Rulesets, built step by step.
 use crate::errno::Errno;
 use crate::numbers::{Entry, Ruleset, Thread};
-use crate::rights::{PortRights, Rights, Scopes};
+use crate::rights::{AccessFs, AccessNet, Scope};
 use crate::rows::Attribute;
 use crate::tables::Tables;
 
@@ -14,12 +14,12 @@ impl Tables {
     /// tables.set_no_new_privs(Thread::MAIN)?;
     /// tables
     ///     .ruleset()
-    ///     .handle_fs(Rights::READ_FILE | Rights::WRITE_FILE)
-    ///     .handle_net(PortRights::BIND_TCP)
-    ///     .scope(Scopes::SIGNAL)
+    ///     .handle_fs(AccessFs::READ_FILE | AccessFs::WRITE_FILE)
+    ///     .handle_net(AccessNet::BIND_TCP)
+    ///     .scope(Scope::SIGNAL)
     ///     .create()?
-    ///     .add_path(Entry::ROOT, Rights::READ_FILE)?
-    ///     .add_port(8080, PortRights::BIND_TCP)?
+    ///     .add_path(Entry::ROOT, AccessFs::READ_FILE)?
+    ///     .add_port(8080, AccessNet::BIND_TCP)?
     ///     .restrict(Thread::MAIN)?;
     /// assert_eq!(tables.domain(Thread::MAIN).count(), 1);
     /// assert_eq!(tables.open_rulesets().count(), 0);
@@ -43,19 +43,19 @@ pub struct RulesetBuilder<'t> {
 
 impl<'t> RulesetBuilder<'t> {
     /// Handles these rights at the file system too.
-    pub fn handle_fs(mut self, rights: Rights) -> Self {
+    pub fn handle_fs(mut self, rights: AccessFs) -> Self {
         self.attribute.fs |= rights;
         self
     }
 
     /// Handles these rights at ports too.
-    pub fn handle_net(mut self, rights: PortRights) -> Self {
+    pub fn handle_net(mut self, rights: AccessNet) -> Self {
         self.attribute.net |= rights;
         self
     }
 
     /// Asks for these scopes too.
-    pub fn scope(mut self, scopes: Scopes) -> Self {
+    pub fn scope(mut self, scopes: Scope) -> Self {
         self.attribute.scope |= scopes;
         self
     }
@@ -66,7 +66,7 @@ impl<'t> RulesetBuilder<'t> {
     /// ```
     /// # use skeinrabbit::*;
     /// let mut tables = Tables::new(Level::new(3))?;
-    /// let refused = tables.ruleset().handle_net(PortRights::ALL).create();
+    /// let refused = tables.ruleset().handle_net(AccessNet::ALL).create();
     /// assert_eq!(refused.err(), Some(Errno::E2BIG));
     /// # Ok::<(), Errno>(())
     /// ```
@@ -95,13 +95,13 @@ impl OpenRuleset<'_> {
     }
 
     /// Adds a rule, as [`Tables::add_path_rule`] does. A refusal closes the ruleset.
-    pub fn add_path(self, entry: Entry, rights: Rights) -> Result<Self, Errno> {
+    pub fn add_path(self, entry: Entry, rights: AccessFs) -> Result<Self, Errno> {
         self.tables.add_path_rule(self.ruleset, entry, rights, 0)?;
         Ok(self)
     }
 
     /// Adds a rule, as [`Tables::add_port_rule`] does. A refusal closes the ruleset.
-    pub fn add_port(self, port: u64, rights: PortRights) -> Result<Self, Errno> {
+    pub fn add_port(self, port: u64, rights: AccessNet) -> Result<Self, Errno> {
         self.tables.add_port_rule(self.ruleset, port, rights, 0)?;
         Ok(self)
     }
@@ -111,7 +111,7 @@ impl OpenRuleset<'_> {
     /// ```
     /// # use skeinrabbit::*;
     /// let mut tables = Tables::new(Level::LATEST)?;
-    /// let refused = tables.ruleset().handle_fs(Rights::REFER).create()?.restrict(Thread::MAIN);
+    /// let refused = tables.ruleset().handle_fs(AccessFs::REFER).create()?.restrict(Thread::MAIN);
     /// assert_eq!(refused.err(), Some(Errno::EPERM));
     /// assert_eq!(tables.open_rulesets().count(), 0);
     /// # Ok::<(), Errno>(())
@@ -126,7 +126,7 @@ impl OpenRuleset<'_> {
     /// ```
     /// # use skeinrabbit::*;
     /// let mut tables = Tables::new(Level::LATEST)?;
-    /// let ruleset = tables.ruleset().handle_fs(Rights::REFER).create()?.keep();
+    /// let ruleset = tables.ruleset().handle_fs(AccessFs::REFER).create()?.keep();
     /// assert_eq!(tables.close_ruleset(ruleset), Ok(()));
     /// # Ok::<(), Errno>(())
     /// ```

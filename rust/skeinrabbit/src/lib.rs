@@ -12,7 +12,7 @@
 //! every layer that handles it.
 //!
 //! ```
-//! use skeinrabbit::{Entry, Errno, Kind, Level, PortRights, Rights, Tables, Thread};
+//! use skeinrabbit::{AccessFs, AccessNet, Entry, Errno, Kind, Level, Tables, Thread};
 //!
 //! let mut tables = Tables::new(Level::LATEST)?;
 //! let docs = tables.create(Thread::MAIN, Entry::ROOT, Kind::DIRECTORY)?;
@@ -22,16 +22,16 @@
 //! tables.set_no_new_privs(worker)?;
 //! tables
 //!     .ruleset()
-//!     .handle_fs(Rights::READ_FILE | Rights::WRITE_FILE)
-//!     .handle_net(PortRights::CONNECT_TCP)
+//!     .handle_fs(AccessFs::READ_FILE | AccessFs::WRITE_FILE)
+//!     .handle_net(AccessNet::CONNECT_TCP)
 //!     .create()?
-//!     .add_path(docs, Rights::READ_FILE)?
-//!     .add_port(443, PortRights::CONNECT_TCP)?
+//!     .add_path(docs, AccessFs::READ_FILE)?
+//!     .add_port(443, AccessNet::CONNECT_TCP)?
 //!     .restrict(worker)?;
 //!
-//! assert_eq!(tables.access(worker, page, Rights::READ_FILE), Ok(()));
-//! assert_eq!(tables.access(worker, page, Rights::WRITE_FILE), Err(Errno::EACCES));
-//! assert_eq!(tables.port(worker, 80, PortRights::CONNECT_TCP), Err(Errno::EACCES));
+//! assert_eq!(tables.access(worker, page, AccessFs::READ_FILE), Ok(()));
+//! assert_eq!(tables.access(worker, page, AccessFs::WRITE_FILE), Err(Errno::EACCES));
+//! assert_eq!(tables.port(worker, 80, AccessNet::CONNECT_TCP), Err(Errno::EACCES));
 //! # Ok::<(), Errno>(())
 //! ```
 //!
@@ -43,7 +43,7 @@
 //! where that is granted but the table would gain a right by the move.
 //!
 //! ```
-//! use skeinrabbit::{Entry, Errno, Kind, Level, Rights, Tables, Thread};
+//! use skeinrabbit::{AccessFs, Entry, Errno, Kind, Level, Tables, Thread};
 //!
 //! let mut tables = Tables::new(Level::LATEST)?;
 //! let cal = tables.create(Thread::MAIN, Entry::ROOT, Kind::DIRECTORY)?;
@@ -52,16 +52,16 @@
 //!
 //! let plugin = tables.clone_thread(Thread::MAIN)?;
 //! tables.set_no_new_privs(plugin)?;
-//! let all = Rights::READ_FILE | Rights::WRITE_FILE | Rights::REMOVE_FILE | Rights::MAKE_REG | Rights::REFER;
+//! let all = AccessFs::READ_FILE | AccessFs::WRITE_FILE | AccessFs::REMOVE_FILE | AccessFs::MAKE_REG | AccessFs::REFER;
 //! tables
 //!     .ruleset()
 //!     .handle_fs(all)
 //!     .create()?
-//!     .add_path(cal, Rights::READ_FILE)?
+//!     .add_path(cal, AccessFs::READ_FILE)?
 //!     .add_path(import, all)?
 //!     .restrict(plugin)?;
 //!
-//! assert_eq!(tables.access(plugin, table, Rights::WRITE_FILE), Err(Errno::EACCES));
+//! assert_eq!(tables.access(plugin, table, AccessFs::WRITE_FILE), Err(Errno::EACCES));
 //! assert_eq!(tables.rename(plugin, table, import, None), Err(Errno::EACCES));
 //!
 //! // Another plug-in may even take files out of the tree. The table still does not go where it could be written.
@@ -71,7 +71,7 @@
 //!     .ruleset()
 //!     .handle_fs(all)
 //!     .create()?
-//!     .add_path(cal, all - Rights::WRITE_FILE)?
+//!     .add_path(cal, all - AccessFs::WRITE_FILE)?
 //!     .add_path(import, all)?
 //!     .restrict(mover)?;
 //! assert_eq!(tables.rename(mover, table, import, None), Err(Errno::EXDEV));
@@ -115,7 +115,7 @@ pub use errno::Errno;
 pub use kind::Kind;
 pub use level::Level;
 pub use numbers::{Entry, Layer, Ruleset, Thread};
-pub use rights::{PortRights, Rights, Scopes};
+pub use rights::{AccessFs, AccessNet, PortRights, Rights, Scope, Scopes};
 pub use rows::{Attribute, EntryRow, LayerRow, RulesetRow, ThreadRow};
 pub use rules::{Rule, Rules, RulesIter};
 pub use tables::Tables;

@@ -3,7 +3,7 @@ use crate::cells::Cells;
 use crate::errno::Errno;
 use crate::level::Level;
 use crate::numbers::{Entry, Thread};
-use crate::rights::Rights;
+use crate::rights::AccessFs;
 use skeinrabbit_sys as sys;
 use std::fmt;
 
@@ -16,7 +16,7 @@ use std::fmt;
 /// # use skeinrabbit::*;
 /// let mut tables = Tables::new(Level::LATEST)?;
 /// let file = tables.create(Thread::MAIN, Entry::ROOT, Kind::REGULAR)?;
-/// assert_eq!(tables.access(Thread::MAIN, file, Rights::WRITE_FILE), Ok(()));
+/// assert_eq!(tables.access(Thread::MAIN, file, AccessFs::WRITE_FILE), Ok(()));
 /// # Ok::<(), Errno>(())
 /// ```
 #[derive(Clone, PartialEq, Eq)]
@@ -64,7 +64,7 @@ impl Tables {
     /// let mut cells = Tables::new(Level::LATEST)?.into_cells();
     /// cells.threads[3] = 7; // an admin mark is 0 or 1
     /// let tables = Tables::from_cells(cells);
-    /// assert_eq!(tables.access(Thread::MAIN, Entry::ROOT, Rights::READ_DIR), Err(Errno::EIO));
+    /// assert_eq!(tables.access(Thread::MAIN, Entry::ROOT, AccessFs::READ_DIR), Err(Errno::EIO));
     /// # Ok::<(), Errno>(())
     /// ```
     pub fn from_cells(cells: Cells) -> Self {
@@ -91,7 +91,7 @@ impl Tables {
     pub fn is_sound(&self) -> bool {
         // No thread has this number: sound tables answer ESRCH, others EIO.
         let nobody = Thread::new(u64::MAX);
-        self.access(nobody, Entry::ROOT, Rights::NONE) == Err(Errno::ESRCH)
+        self.access(nobody, Entry::ROOT, AccessFs::NONE) == Err(Errno::ESRCH)
     }
 
     pub(crate) fn shared(&self) -> sys::SharedCells<'_> {
