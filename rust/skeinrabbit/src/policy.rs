@@ -101,7 +101,8 @@ impl Tables {
         Errno::answer(raw).map(drop)
     }
 
-    /// Gives a thread a layer made of a ruleset as it is now. Later rules or a close do not reach the layer.
+    /// Gives a thread a layer made of a ruleset as it is now, and answers the layer's number. Later rules or a close do not reach
+    /// the layer.
     ///
     /// Refusals, in order: tables not sound, EIO; thread not live, ESRCH; level 0, EOPNOTSUPP; neither mark set, EPERM; flags
     /// not 0, EINVAL; ruleset not open, EBADF; 16 layers already, E2BIG; no free layer or too few free pool rules, ENOMEM.
@@ -112,12 +113,20 @@ impl Tables {
     /// let ruleset = tables.ruleset().handle_fs(AccessFs::READ_FILE).create()?.keep();
     /// assert_eq!(tables.restrict(Thread::MAIN, ruleset, 0), Err(Errno::EPERM));
     /// tables.set_no_new_privs(Thread::MAIN)?;
-    /// assert_eq!(tables.restrict(Thread::MAIN, ruleset, 0), Ok(()));
+    /// let layer = tables.restrict(Thread::MAIN, ruleset, 0)?;
+    /// assert_eq!(tables.thread(Thread::MAIN).and_then(|row| row.youngest), Some(layer));
     /// # Ok::<(), Errno>(())
     /// ```
-    pub fn restrict(&mut self, thread: Thread, ruleset: Ruleset, flags: u64) -> Result<(), Errno> {
+    pub fn restrict(
+        &mut self,
+        thread: Thread,
+        ruleset: Ruleset,
+        flags: u64,
+    ) -> Result<Layer, Errno> {
+        // The core answers 0; a new layer takes the next record.
+        let [_, _, layers_used, _] = *self.cells().system;
         let raw = sys::restrict(&mut self.raw(), thread.number(), ruleset.number(), flags);
-        Errno::answer(raw).map(drop)
+        Errno::answer(raw).map(|_| Layer::new(layers_used))
     }
 
     /// The rules of a layer: a part of the pool, not a copy.
@@ -128,13 +137,13 @@ impl Tables {
     /// # use skeinrabbit::*;
     /// let mut tables = Tables::new(Level::LATEST)?;
     /// tables.set_no_new_privs(Thread::MAIN)?;
-    /// tables
+    /// let layer = tables
     ///     .ruleset()
     ///     .handle_fs(AccessFs::READ_FILE)
     ///     .create()?
     ///     .add_path(Entry::ROOT, AccessFs::READ_FILE)?
     ///     .restrict(Thread::MAIN)?;
-    /// let rules = tables.layer_rules(Layer::new(0))?;
+    /// let rules = tables.layer_rules(layer)?;
     /// let all: Vec<Rule> = rules.iter().collect();
     /// assert_eq!(all, [Rule::Path { object: 0, rights: AccessFs::READ_FILE }]);
     /// assert_eq!(tables.layer_rules(Layer::new(1)), Err(Errno::EBADF));

@@ -15,7 +15,7 @@ const CALLS: [Call; 17] = [
         t.add_port_rule(a.into(), b, AccessNet::from_bits(c), d)
             .map(|()| 0)
     },
-    |t, [a, b, c, ..]| t.restrict(a.into(), b.into(), c).map(|()| 0),
+    |t, [a, b, c, ..]| t.restrict(a.into(), b.into(), c).map(|_| 0),
     |t, [a, ..]| t.layer_rules(a.into()).map(|_| 0),
     |t, [a, ..]| t.clone_thread(a.into()).map(Thread::number),
     |t, [a, ..]| t.set_no_new_privs(a.into()).map(|()| 0),
@@ -180,9 +180,9 @@ fn layered() -> Tables {
         .unwrap();
     let open = open.add_port(80, AccessNet::BIND_TCP).unwrap();
     let open = open.add_path(Entry::ROOT, AccessFs::READ_DIR).unwrap();
-    drop(open.restrict(Thread::MAIN).unwrap());
+    assert_eq!(open.restrict(Thread::MAIN), Ok(Layer::new(0)));
     let open = tables.ruleset().scope(Scope::SIGNAL).create().unwrap();
-    drop(open.restrict(Thread::MAIN).unwrap());
+    assert_eq!(open.restrict(Thread::MAIN), Ok(Layer::new(1)));
     tables
 }
 
@@ -247,6 +247,23 @@ fn cells_go_out_and_come_back() {
     let again = Tables::from_cells(tables.clone().into_cells());
     assert_eq!(again, tables);
     assert!(again.is_sound());
+}
+
+#[test]
+fn a_new_layer_is_the_youngest_of_its_thread() {
+    let mut tables = layered();
+    let other = tables.clone_thread(Thread::MAIN).unwrap();
+    let kept = tables
+        .ruleset()
+        .handle_fs(AccessFs::REFER)
+        .create()
+        .unwrap();
+    let kept = kept.keep();
+    for (number, thread) in [(2, other), (3, Thread::MAIN), (4, other)] {
+        let layer = tables.restrict(thread, kept, 0).unwrap();
+        assert_eq!(layer, Layer::new(number));
+        assert_eq!(tables.thread(thread).unwrap().youngest, Some(layer));
+    }
 }
 
 #[test]
