@@ -1,8 +1,9 @@
 //! The cells of the six tables.
 use crate::text::ParseError;
+use alloc::boxed::Box;
+use core::fmt;
+use core::str::FromStr;
 use skeinrabbit_sys::{self as sys, SIZES};
-use std::fmt;
-use std::str::FromStr;
 
 /// The cells of the six tables, each of its right length and with any contents.
 ///

@@ -1,8 +1,8 @@
 //! Kinds of entries.
 use crate::rights::AccessFs;
 use crate::text::{parse_number, ParseError};
-use std::fmt;
-use std::str::FromStr;
+use core::fmt;
+use core::str::FromStr;
 
 /// What an entry is.
 ///

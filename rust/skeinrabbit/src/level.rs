@@ -1,5 +1,5 @@
 //! Levels of Landlock.
-use std::fmt;
+use core::fmt;
 
 /// How much of Landlock the tables know: 0 (disabled) to 6, fixed for the life of the tables.
 ///

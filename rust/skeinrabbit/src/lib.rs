@@ -9,12 +9,13 @@
 //!
 //! A ruleset says which rights it *handles* and where it grants them. What it handles and grants nowhere is denied.
 //! [`OpenRuleset::restrict`] makes it a layer of a thread's domain, which is never taken away, and a request must be granted by
-//! every layer that handles it.
+//! every layer that handles it. So handle every right ([`AccessFs::from_all`]) and grant the few that are needed.
 //!
 //! ```
 //! use skeinrabbit::{AccessFs, AccessNet, Entry, Errno, Kind, Level, Tables, Thread};
 //!
-//! let mut tables = Tables::new(Level::LATEST)?;
+//! let level = Level::LATEST;
+//! let mut tables = Tables::new(level)?;
 //! let docs = tables.create(Thread::MAIN, Entry::ROOT, Kind::DIRECTORY)?;
 //! let page = tables.create(Thread::MAIN, docs, Kind::REGULAR)?;
 //!
@@ -22,10 +23,10 @@
 //! tables.set_no_new_privs(worker)?;
 //! tables
 //!     .ruleset()
-//!     .handle_fs(AccessFs::READ_FILE | AccessFs::WRITE_FILE)
-//!     .handle_net(AccessNet::CONNECT_TCP)
+//!     .handle_fs(AccessFs::from_all(level))
+//!     .handle_net(AccessNet::from_all(level))
 //!     .create()?
-//!     .add_path(docs, AccessFs::READ_FILE)?
+//!     .add_path(docs, AccessFs::from_read(level))?
 //!     .add_port(443, AccessNet::CONNECT_TCP)?
 //!     .restrict(worker)?;
 //!
@@ -83,6 +84,11 @@
 //! Entries, rulesets, threads, layers, kinds, levels and sets of rights are numbers with a type of their own. Any number may
 //! stand in any of them: the core tests what it gets, and a number that means nothing is refused as the specification says. No
 //! method of this crate panics.
+//!
+//! # Without `std`
+//!
+//! The feature `std`, on by default, makes an [`Errno`] a `std::io::Error`. Without it the crate needs `alloc` alone.
+#![cfg_attr(not(test), no_std)]
 #![forbid(unsafe_code)]
 #![deny(missing_docs)]
 #![cfg_attr(
@@ -95,9 +101,13 @@
     )
 )]
 
+extern crate alloc;
+
 mod builder;
 mod cells;
 mod errno;
+#[cfg(feature = "std")]
+mod io;
 mod kind;
 mod level;
 mod numbers;

@@ -1,5 +1,5 @@
 //! Numbers of entries, rulesets, threads and layers.
-use std::fmt;
+use core::fmt;
 
 macro_rules! number {
     ($(#[$doc:meta])* $name:ident) => {

@@ -1,9 +1,9 @@
 //! Sets of rights: for files, for ports, and scopes. Where the crate `landlock` has the same thing, it has the same name.
 use crate::level::Level;
 use crate::text::{read_mask, write_mask, ParseError};
-use std::fmt;
-use std::ops::{BitAnd, BitAndAssign, BitOr, BitOrAssign, Sub, SubAssign};
-use std::str::FromStr;
+use core::fmt;
+use core::ops::{BitAnd, BitAndAssign, BitOr, BitOrAssign, Sub, SubAssign};
+use core::str::FromStr;
 
 macro_rules! set {
     (

@@ -192,6 +192,6 @@ impl Tables {
     pub fn domain(&self, thread: Thread) -> impl Iterator<Item = LayerRow> + '_ {
         let youngest = self.thread(thread).and_then(|row| row.youngest);
         let first = youngest.and_then(|layer| self.layer(layer));
-        std::iter::successors(first, |row| row.parent.and_then(|layer| self.layer(layer))).take(16)
+        core::iter::successors(first, |row| row.parent.and_then(|layer| self.layer(layer))).take(16)
     }
 }

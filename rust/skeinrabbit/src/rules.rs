@@ -1,7 +1,7 @@
 //! Rules, as they stand in the cells.
 use crate::rights::{AccessFs, AccessNet};
-use std::fmt;
-use std::slice::ChunksExact;
+use core::fmt;
+use core::slice::ChunksExact;
 
 /// What a ruleset or layer grants at one object or port.
 #[derive(Clone, Copy, Debug, PartialEq, Eq)]

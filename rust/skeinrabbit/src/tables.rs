@@ -4,8 +4,8 @@ use crate::errno::Errno;
 use crate::level::Level;
 use crate::numbers::{Entry, Thread};
 use crate::rights::AccessFs;
+use core::fmt;
 use skeinrabbit_sys as sys;
-use std::fmt;
 
 /// All state of the broker: the file tree, rulesets, layers and threads.
 ///
