@@ -55,7 +55,7 @@ fn cells(tables: &mut Tables) -> Cells<'_> {
     }
 }
 
-/// Calls the core's function for each of the calls with numbers alone.
+/// Calls the core's function for each of the calls; listed are those with numbers alone that may change the tables.
 macro_rules! core_answer {
     (
         $tables:ident, $call:ident, $report:ident;
@@ -66,7 +66,13 @@ macro_rules! core_answer {
                 skeinrabbit_sys::create_ruleset($tables, bytes, flags)
             }
             Call::LayerRules { layer, .. } => {
-                skeinrabbit_sys::layer_rules($tables, layer, $report)
+                skeinrabbit_sys::layer_rules($tables.shared(), layer, $report)
+            }
+            Call::Access { thread, entry, rights } => {
+                skeinrabbit_sys::access($tables.shared(), thread, entry, rights)
+            }
+            Call::Port { thread, port, rights } => {
+                skeinrabbit_sys::port($tables.shared(), thread, port, rights)
             }
             $(Call::$variant { $($field),* } => skeinrabbit_sys::$function($tables, $($field),*),)*
         }
@@ -84,8 +90,6 @@ fn core_answer(tables: &mut Cells, call: &Call, report: &mut [u64]) -> u64 {
         Clone clone(thread);
         SetNoNewPrivs set_no_new_privs(thread);
         SetAdmin set_admin(thread, on);
-        Access access(thread, entry, rights);
-        Port port(thread, port, rights);
         Create create(thread, directory, kind);
         Remove remove(thread, entry);
         Link link(thread, source, directory);

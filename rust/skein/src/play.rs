@@ -139,7 +139,7 @@ impl Player {
                 flags,
             } => {
                 let (thread, ruleset) = (self.thread(thread)?, self.ruleset(ruleset)?);
-                done(self.tables.restrict(thread, ruleset, *flags))
+                done(self.tables.restrict(thread, ruleset, *flags).map(drop))
             }
         })
     }

@@ -4,7 +4,7 @@
 //! or 2^64 minus an error number. The crate `skeinrabbit` has a typed interface over these.
 #![no_std]
 
-/// The six tables, each a slice of cells.
+/// The six tables, for the calls that may change them.
 pub struct Cells<'a> {
     pub system: &'a mut [u64],
     pub entries: &'a mut [u64],
@@ -14,125 +14,168 @@ pub struct Cells<'a> {
     pub threads: &'a mut [u64],
 }
 
+/// The six tables, for the calls that change none.
+#[derive(Clone, Copy)]
+pub struct SharedCells<'a> {
+    pub system: &'a [u64],
+    pub entries: &'a [u64],
+    pub rulesets: &'a [u64],
+    pub layers: &'a [u64],
+    pub pool: &'a [u64],
+    pub threads: &'a [u64],
+}
+
+impl Cells<'_> {
+    /// These tables, to be read only.
+    pub fn shared(&self) -> SharedCells<'_> {
+        SharedCells {
+            system: self.system,
+            entries: self.entries,
+            rulesets: self.rulesets,
+            layers: self.layers,
+            pool: self.pool,
+            threads: self.threads,
+        }
+    }
+}
+
 /// The cells of each table, in the order of the fields of [`Cells`].
 pub const SIZES: [usize; 6] = [4, 1024 * 3, 16 * 196, 64 * 6, 1024 * 3, 8 * 4];
 
-/// Declares exports: each takes the six tables, as pointers and lengths, before its own arguments.
-macro_rules! exports {
-    ($($export:ident($($arg:ident: $type:ty),*);)*) => {
-        extern "C" {
-            $(fn $export(
-                system: *mut u64,
-                system_len: usize,
-                entries: *mut u64,
-                entries_len: usize,
-                rulesets: *mut u64,
-                rulesets_len: usize,
-                layers: *mut u64,
-                layers_len: usize,
-                pool: *mut u64,
-                pool_len: usize,
-                threads: *mut u64,
-                threads_len: usize,
-                $($arg: $type),*
-            ) -> u64;)*
-        }
+/// The pointer to a table's cells; one to be written through comes from an exclusive slice alone.
+macro_rules! pointer {
+    (const $cells:expr) => {
+        $cells.as_ptr()
+    };
+    (mut $cells:expr) => {
+        $cells.as_mut_ptr()
     };
 }
 
-/// Calls an export with the six tables and its own arguments.
-macro_rules! pass {
-    ($export:ident, $tables:ident, $($value:expr),*) => {
-        // The pointers and lengths are those of slices that nothing else holds meanwhile.
-        unsafe {
-            $export(
-                $tables.system.as_mut_ptr(),
-                $tables.system.len(),
-                $tables.entries.as_mut_ptr(),
-                $tables.entries.len(),
-                $tables.rulesets.as_mut_ptr(),
-                $tables.rulesets.len(),
-                $tables.layers.as_mut_ptr(),
-                $tables.layers.len(),
-                $tables.pool.as_mut_ptr(),
-                $tables.pool.len(),
-                $tables.threads.as_mut_ptr(),
-                $tables.threads.len(),
-                $($value),*
-            )
+/// A call: its function, and its export with `mut` for each table that it may change, in the order of the fields of [`Cells`],
+/// and with what it is given after the tables.
+macro_rules! call {
+    (
+        $(#[$doc:meta])*
+        $name:ident($tables:ident: $bundle:ty $(, $arg:ident: $type:ty)*),
+        $export:ident[$system:tt $entries:tt $rulesets:tt $layers:tt $pool:tt $threads:tt]
+        ($($value:expr => $raw:ty),*)
+    ) => {
+        extern "C" {
+            fn $export(
+                system: *$system u64,
+                system_len: usize,
+                entries: *$entries u64,
+                entries_len: usize,
+                rulesets: *$rulesets u64,
+                rulesets_len: usize,
+                layers: *$layers u64,
+                layers_len: usize,
+                pool: *$pool u64,
+                pool_len: usize,
+                threads: *$threads u64,
+                threads_len: usize,
+                $(_: $raw),*
+            ) -> u64;
+        }
+
+        $(#[$doc])*
+        pub fn $name($tables: $bundle $(, $arg: $type)*) -> u64 {
+            // Each pointer comes with the length of its slice, which is borrowed until the call is over. The core stays within the
+            // lengths, keeps no pointer, and writes through the `mut` ones alone, whose slices nothing else holds meanwhile.
+            unsafe {
+                $export(
+                    pointer!($system $tables.system),
+                    $tables.system.len(),
+                    pointer!($entries $tables.entries),
+                    $tables.entries.len(),
+                    pointer!($rulesets $tables.rulesets),
+                    $tables.rulesets.len(),
+                    pointer!($layers $tables.layers),
+                    $tables.layers.len(),
+                    pointer!($pool $tables.pool),
+                    $tables.pool.len(),
+                    pointer!($threads $tables.threads),
+                    $tables.threads.len(),
+                    $($value),*
+                )
+            }
         }
     };
 }
 
 /// The calls whose arguments are all numbers.
 macro_rules! calls {
-    ($($(#[$doc:meta])* $export:ident, $name:ident($($arg:ident),*);)*) => {
-        exports! { $($export($($arg: u64),*);)* }
-
-        $($(#[$doc])*
-        pub fn $name(tables: &mut Cells $(, $arg: u64)*) -> u64 {
-            pass!($export, tables, $($arg),*)
+    ($(
+        $(#[$doc:meta])*
+        $name:ident($tables:ident: $bundle:ty $(, $arg:ident)*), $export:ident $access:tt;
+    )*) => {
+        $(call! {
+            $(#[$doc])*
+            $name($tables: $bundle $(, $arg: u64)*), $export $access ($($arg => u64),*)
         })*
     };
 }
 
 calls! {
     /// Fresh tables at a level.
-    skein_fresh, fresh(level);
+    fresh(tables: &mut Cells, level),
+        skein_fresh[mut mut mut mut mut mut];
     /// Closes a ruleset.
-    skein_close_ruleset, close_ruleset(ruleset);
+    close_ruleset(tables: &mut Cells, ruleset),
+        skein_close_ruleset[const const mut const const const];
     /// Adds a rule for an entry's object.
-    skein_add_path_rule, add_path_rule(ruleset, entry, rights, flags);
+    add_path_rule(tables: &mut Cells, ruleset, entry, rights, flags),
+        skein_add_path_rule[const const mut const const const];
     /// Adds a rule for a port.
-    skein_add_port_rule, add_port_rule(ruleset, port, rights, flags);
+    add_port_rule(tables: &mut Cells, ruleset, port, rights, flags),
+        skein_add_port_rule[const const mut const const const];
     /// Gives a thread a layer made of a ruleset.
-    skein_restrict, restrict(thread, ruleset, flags);
+    restrict(tables: &mut Cells, thread, ruleset, flags),
+        skein_restrict[mut const const mut mut mut];
     /// Clones a thread; answers the new thread.
-    skein_clone, clone(thread);
+    clone(tables: &mut Cells, thread),
+        skein_clone[const const const const const mut];
     /// Sets a thread's no_new_privs mark.
-    skein_set_no_new_privs, set_no_new_privs(thread);
+    set_no_new_privs(tables: &mut Cells, thread),
+        skein_set_no_new_privs[const const const const const mut];
     /// Sets a thread's admin mark, or clears it where `on` is 0.
-    skein_set_admin, set_admin(thread, on);
+    set_admin(tables: &mut Cells, thread, on),
+        skein_set_admin[const const const const const mut];
     /// Whether a thread may use an entry with the rights.
-    skein_access, access(thread, entry, rights);
+    access(tables: SharedCells, thread, entry, rights),
+        skein_access[const const const const const const];
     /// Whether a thread may use a port with the rights.
-    skein_port, port(thread, port, rights);
+    port(tables: SharedCells, thread, port, rights),
+        skein_port[const const const const const const];
     /// Creates an entry of a kind in a directory; answers its number.
-    skein_create, create(thread, directory, kind);
+    create(tables: &mut Cells, thread, directory, kind),
+        skein_create[mut mut const const const const];
     /// Removes an entry.
-    skein_remove, remove(thread, entry);
+    remove(tables: &mut Cells, thread, entry),
+        skein_remove[const mut const const const const];
     /// Links an entry into a directory; answers the new entry.
-    skein_link, link(thread, source, directory);
+    link(tables: &mut Cells, thread, source, directory),
+        skein_link[const mut const const const const];
     /// Moves an entry to a directory, in place of `entry` where `replaces` is not 0.
-    skein_rename, rename(thread, source, directory, replaces, entry);
+    rename(tables: &mut Cells, thread, source, directory, replaces, entry),
+        skein_rename[const mut const const const const];
     /// Exchanges an entry with an entry of a directory.
-    skein_exchange, exchange(thread, source, directory, entry);
+    exchange(tables: &mut Cells, thread, source, directory, entry),
+        skein_exchange[const mut const const const const];
 }
 
-exports! {
-    skein_create_ruleset(bytes: *const u8, bytes_len: usize, flags: u64);
-    skein_layer_rules(layer: u64, part: *mut u64, part_len: usize);
+call! {
+    /// Opens a ruleset from the bytes of its attribute; answers its number.
+    create_ruleset(tables: &mut Cells, bytes: &[u8], flags: u64),
+    skein_create_ruleset[const const mut const const const]
+    (bytes.as_ptr() => *const u8, bytes.len() => usize, flags => u64)
 }
 
-/// Opens a ruleset from the bytes of its attribute; answers its number.
-pub fn create_ruleset(tables: &mut Cells, bytes: &[u8], flags: u64) -> u64 {
-    pass!(
-        skein_create_ruleset,
-        tables,
-        bytes.as_ptr(),
-        bytes.len(),
-        flags
-    )
-}
-
-/// Where a layer's rules stand in the pool: the first cell and the number of cells, written to the first two cells of `part` as
-/// far as it has them; zeros with a refusal.
-pub fn layer_rules(tables: &mut Cells, layer: u64, part: &mut [u64]) -> u64 {
-    pass!(
-        skein_layer_rules,
-        tables,
-        layer,
-        part.as_mut_ptr(),
-        part.len()
-    )
+call! {
+    /// Where a layer's rules stand in the pool: the first cell and the number of cells, written to the first two cells of `part`
+    /// as far as it has them; zeros with a refusal.
+    layer_rules(tables: SharedCells, layer: u64, part: &mut [u64]),
+    skein_layer_rules[const const const const const const]
+    (layer => u64, part.as_mut_ptr() => *mut u64, part.len() => usize)
 }

@@ -1,7 +1,7 @@
 //! Rulesets, built step by step.
 use crate::errno::Errno;
-use crate::numbers::{Entry, Ruleset, Thread};
-use crate::rights::{PortRights, Rights, Scopes};
+use crate::numbers::{Entry, Layer, Ruleset, Thread};
+use crate::rights::{AccessFs, AccessNet, Scope};
 use crate::rows::Attribute;
 use crate::tables::Tables;
 
@@ -10,18 +10,19 @@ impl Tables {
     ///
     /// ```
     /// # use skeinrabbit::*;
-    /// let mut tables = Tables::new(Level::LATEST)?;
+    /// let level = Level::LATEST;
+    /// let mut tables = Tables::new(level)?;
     /// tables.set_no_new_privs(Thread::MAIN)?;
-    /// tables
+    /// let layer = tables
     ///     .ruleset()
-    ///     .handle_fs(Rights::READ_FILE | Rights::WRITE_FILE)
-    ///     .handle_net(PortRights::BIND_TCP)
-    ///     .scope(Scopes::SIGNAL)
+    ///     .handle_fs(AccessFs::from_all(level))
+    ///     .handle_net(AccessNet::from_all(level))
+    ///     .scope(Scope::from_all(level))
     ///     .create()?
-    ///     .add_path(Entry::ROOT, Rights::READ_FILE)?
-    ///     .add_port(8080, PortRights::BIND_TCP)?
+    ///     .add_path(Entry::ROOT, AccessFs::from_read(level))?
+    ///     .add_port(8080, AccessNet::BIND_TCP)?
     ///     .restrict(Thread::MAIN)?;
-    /// assert_eq!(tables.domain(Thread::MAIN).count(), 1);
+    /// assert_eq!(tables.layer_rules(layer)?.len(), 2);
     /// assert_eq!(tables.open_rulesets().count(), 0);
     /// # Ok::<(), Errno>(())
     /// ```
@@ -34,8 +35,18 @@ impl Tables {
 }
 
 /// What a ruleset is to handle; see [`Tables::ruleset`].
+///
+/// One that is not created denies nothing, and the compiler warns of it:
+///
+/// ```compile_fail
+/// #![deny(unused_must_use)]
+/// # use skeinrabbit::*;
+/// let mut tables = Tables::new(Level::LATEST)?;
+/// tables.ruleset().handle_fs(AccessFs::READ_FILE);
+/// # Ok::<(), Errno>(())
+/// ```
 #[derive(Debug)]
-#[must_use = "nothing is opened before `create`"]
+#[must_use = "no ruleset is open before `create`, and no thread is restricted before `restrict`"]
 pub struct RulesetBuilder<'t> {
     tables: &'t mut Tables,
     attribute: Attribute,
@@ -43,19 +54,19 @@ pub struct RulesetBuilder<'t> {
 
 impl<'t> RulesetBuilder<'t> {
     /// Handles these rights at the file system too.
-    pub fn handle_fs(mut self, rights: Rights) -> Self {
+    pub fn handle_fs(mut self, rights: AccessFs) -> Self {
         self.attribute.fs |= rights;
         self
     }
 
     /// Handles these rights at ports too.
-    pub fn handle_net(mut self, rights: PortRights) -> Self {
+    pub fn handle_net(mut self, rights: AccessNet) -> Self {
         self.attribute.net |= rights;
         self
     }
 
     /// Asks for these scopes too.
-    pub fn scope(mut self, scopes: Scopes) -> Self {
+    pub fn scope(mut self, scopes: Scope) -> Self {
         self.attribute.scope |= scopes;
         self
     }
@@ -66,7 +77,7 @@ impl<'t> RulesetBuilder<'t> {
     /// ```
     /// # use skeinrabbit::*;
     /// let mut tables = Tables::new(Level::new(3))?;
-    /// let refused = tables.ruleset().handle_net(PortRights::ALL).create();
+    /// let refused = tables.ruleset().handle_net(AccessNet::ALL).create();
     /// assert_eq!(refused.err(), Some(Errno::E2BIG));
     /// # Ok::<(), Errno>(())
     /// ```
@@ -81,7 +92,29 @@ impl<'t> RulesetBuilder<'t> {
 }
 
 /// A ruleset that is closed when this value goes, unless it is kept.
+///
+/// One that restricts no thread denies nothing, and the compiler warns of it:
+///
+/// ```compile_fail
+/// #![deny(unused_must_use)]
+/// # use skeinrabbit::*;
+/// let mut tables = Tables::new(Level::LATEST)?;
+/// tables.ruleset().handle_fs(AccessFs::READ_FILE).create()?;
+/// # Ok::<(), Errno>(())
+/// ```
+///
+/// The same with its end is taken without a word:
+///
+/// ```
+/// #![deny(unused_must_use)]
+/// # use skeinrabbit::*;
+/// let mut tables = Tables::new(Level::LATEST)?;
+/// # tables.set_no_new_privs(Thread::MAIN)?;
+/// tables.ruleset().handle_fs(AccessFs::READ_FILE).create()?.restrict(Thread::MAIN)?;
+/// # Ok::<(), Errno>(())
+/// ```
 #[derive(Debug)]
+#[must_use = "a ruleset restricts no thread before `restrict`, and this one is closed when it goes"]
 pub struct OpenRuleset<'t> {
     tables: &'t mut Tables,
     ruleset: Ruleset,
@@ -95,30 +128,33 @@ impl OpenRuleset<'_> {
     }
 
     /// Adds a rule, as [`Tables::add_path_rule`] does. A refusal closes the ruleset.
-    pub fn add_path(self, entry: Entry, rights: Rights) -> Result<Self, Errno> {
+    pub fn add_path(self, entry: Entry, rights: AccessFs) -> Result<Self, Errno> {
         self.tables.add_path_rule(self.ruleset, entry, rights, 0)?;
         Ok(self)
     }
 
     /// Adds a rule, as [`Tables::add_port_rule`] does. A refusal closes the ruleset.
-    pub fn add_port(self, port: u64, rights: PortRights) -> Result<Self, Errno> {
+    pub fn add_port(self, port: u64, rights: AccessNet) -> Result<Self, Errno> {
         self.tables.add_port_rule(self.ruleset, port, rights, 0)?;
         Ok(self)
     }
 
-    /// Gives a thread a layer of it, as [`Tables::restrict`] does. A refusal closes the ruleset.
+    /// Gives a thread a layer of it, as [`Tables::restrict`] does, and answers the layer. The ruleset is closed then, after a
+    /// refusal too; [`OpenRuleset::keep`] is for one that restricts several threads.
     ///
     /// ```
     /// # use skeinrabbit::*;
     /// let mut tables = Tables::new(Level::LATEST)?;
-    /// let refused = tables.ruleset().handle_fs(Rights::REFER).create()?.restrict(Thread::MAIN);
-    /// assert_eq!(refused.err(), Some(Errno::EPERM));
+    /// let refused = tables.ruleset().handle_fs(AccessFs::REFER).create()?.restrict(Thread::MAIN);
+    /// assert_eq!(refused, Err(Errno::EPERM));
+    /// tables.set_no_new_privs(Thread::MAIN)?;
+    /// let layer = tables.ruleset().handle_fs(AccessFs::REFER).create()?.restrict(Thread::MAIN)?;
+    /// assert_eq!(layer, Layer::new(0));
     /// assert_eq!(tables.open_rulesets().count(), 0);
     /// # Ok::<(), Errno>(())
     /// ```
-    pub fn restrict(self, thread: Thread) -> Result<Self, Errno> {
-        self.tables.restrict(thread, self.ruleset, 0)?;
-        Ok(self)
+    pub fn restrict(self, thread: Thread) -> Result<Layer, Errno> {
+        self.tables.restrict(thread, self.ruleset, 0)
     }
 
     /// Leaves the ruleset open and gives its number.
@@ -126,7 +162,12 @@ impl OpenRuleset<'_> {
     /// ```
     /// # use skeinrabbit::*;
     /// let mut tables = Tables::new(Level::LATEST)?;
-    /// let ruleset = tables.ruleset().handle_fs(Rights::REFER).create()?.keep();
+    /// tables.set_no_new_privs(Thread::MAIN)?;
+    /// let worker = tables.clone_thread(Thread::MAIN)?;
+    /// let ruleset = tables.ruleset().handle_fs(AccessFs::REFER).create()?.keep();
+    /// for thread in [Thread::MAIN, worker] {
+    ///     tables.restrict(thread, ruleset, 0)?;
+    /// }
     /// assert_eq!(tables.close_ruleset(ruleset), Ok(()));
     /// # Ok::<(), Errno>(())
     /// ```

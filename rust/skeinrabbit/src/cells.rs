@@ -1,9 +1,9 @@
 //! The cells of the six tables.
-use skeinrabbit_sys::SIZES;
-use std::fmt;
-use std::str::FromStr;
-
 use crate::text::ParseError;
+use alloc::boxed::Box;
+use core::fmt;
+use core::str::FromStr;
+use skeinrabbit_sys::{self as sys, SIZES};
 
 /// The cells of the six tables, each of its right length and with any contents.
 ///
@@ -68,8 +68,21 @@ impl Cells {
         cells.try_into().ok()
     }
 
-    pub(crate) fn raw(&mut self) -> skeinrabbit_sys::Cells<'_> {
-        skeinrabbit_sys::Cells {
+    /// The cells, for the core to read.
+    pub(crate) fn shared(&self) -> sys::SharedCells<'_> {
+        sys::SharedCells {
+            system: self.system.as_slice(),
+            entries: self.entries.as_slice(),
+            rulesets: self.rulesets.as_slice(),
+            layers: self.layers.as_slice(),
+            pool: self.pool.as_slice(),
+            threads: self.threads.as_slice(),
+        }
+    }
+
+    /// The cells, for the core to change.
+    pub(crate) fn raw(&mut self) -> sys::Cells<'_> {
+        sys::Cells {
             system: self.system.as_mut_slice(),
             entries: self.entries.as_mut_slice(),
             rulesets: self.rulesets.as_mut_slice(),

@@ -1,7 +1,8 @@
 //! The error numbers of refusals.
 use crate::text::{parse_number, ParseError};
-use std::fmt;
-use std::str::FromStr;
+use alloc::format;
+use core::fmt;
+use core::str::FromStr;
 
 /// The number of a refusal, with the name it has on Linux.
 ///
@@ -106,7 +107,7 @@ impl fmt::Debug for Errno {
     }
 }
 
-impl std::error::Error for Errno {}
+impl core::error::Error for Errno {}
 
 /// Reads a name (`EACCES`) or a negated number (`-13`).
 impl FromStr for Errno {

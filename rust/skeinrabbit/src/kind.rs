@@ -1,16 +1,16 @@
 //! Kinds of entries.
-use crate::rights::Rights;
+use crate::rights::AccessFs;
 use crate::text::{parse_number, ParseError};
-use std::fmt;
-use std::str::FromStr;
+use core::fmt;
+use core::str::FromStr;
 
 /// What an entry is.
 ///
 /// ```
-/// use skeinrabbit::{Kind, Rights};
+/// use skeinrabbit::{AccessFs, Kind};
 /// assert_eq!("directory".parse(), Ok(Kind::DIRECTORY));
 /// assert_eq!(Kind::FIFO.to_string(), "fifo");
-/// assert_eq!(Kind::FIFO.rights(), Rights::FILE_SET);
+/// assert_eq!(Kind::FIFO.rights(), AccessFs::FILE_SET);
 /// ```
 #[derive(Clone, Copy, PartialEq, Eq, PartialOrd, Ord, Hash)]
 pub struct Kind(u64);
@@ -58,10 +58,10 @@ impl Kind {
     }
 
     /// The rights that an entry of the kind can hold: all 16 for a directory, else the file set.
-    pub fn rights(self) -> Rights {
+    pub fn rights(self) -> AccessFs {
         match self {
-            Kind::DIRECTORY => Rights::ALL,
-            _ => Rights::FILE_SET,
+            Kind::DIRECTORY => AccessFs::ALL,
+            _ => AccessFs::FILE_SET,
         }
     }
 }

@@ -1,11 +1,11 @@
 //! Levels of Landlock.
-use std::fmt;
+use core::fmt;
 
 /// How much of Landlock the tables know: 0 (disabled) to 6, fixed for the life of the tables.
 ///
 /// ```
-/// use skeinrabbit::{Level, Rights};
-/// assert!(!Rights::of_level(Level::new(1)).contains(Rights::REFER));
+/// use skeinrabbit::{AccessFs, Level};
+/// assert!(!AccessFs::from_all(Level::new(1)).contains(AccessFs::REFER));
 /// assert_eq!(Level::LATEST.known_size(), 24);
 /// ```
 #[derive(Clone, Copy, Debug, PartialEq, Eq, PartialOrd, Ord, Hash)]

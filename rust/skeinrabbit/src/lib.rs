@@ -9,12 +9,13 @@
 //!
 //! A ruleset says which rights it *handles* and where it grants them. What it handles and grants nowhere is denied.
 //! [`OpenRuleset::restrict`] makes it a layer of a thread's domain, which is never taken away, and a request must be granted by
-//! every layer that handles it.
+//! every layer that handles it. So handle every right ([`AccessFs::from_all`]) and grant the few that are needed.
 //!
 //! ```
-//! use skeinrabbit::{Entry, Errno, Kind, Level, PortRights, Rights, Tables, Thread};
+//! use skeinrabbit::{AccessFs, AccessNet, Entry, Errno, Kind, Level, Tables, Thread};
 //!
-//! let mut tables = Tables::new(Level::LATEST)?;
+//! let level = Level::LATEST;
+//! let mut tables = Tables::new(level)?;
 //! let docs = tables.create(Thread::MAIN, Entry::ROOT, Kind::DIRECTORY)?;
 //! let page = tables.create(Thread::MAIN, docs, Kind::REGULAR)?;
 //!
@@ -22,16 +23,16 @@
 //! tables.set_no_new_privs(worker)?;
 //! tables
 //!     .ruleset()
-//!     .handle_fs(Rights::READ_FILE | Rights::WRITE_FILE)
-//!     .handle_net(PortRights::CONNECT_TCP)
+//!     .handle_fs(AccessFs::from_all(level))
+//!     .handle_net(AccessNet::from_all(level))
 //!     .create()?
-//!     .add_path(docs, Rights::READ_FILE)?
-//!     .add_port(443, PortRights::CONNECT_TCP)?
+//!     .add_path(docs, AccessFs::from_read(level))?
+//!     .add_port(443, AccessNet::CONNECT_TCP)?
 //!     .restrict(worker)?;
 //!
-//! assert_eq!(tables.access(worker, page, Rights::READ_FILE), Ok(()));
-//! assert_eq!(tables.access(worker, page, Rights::WRITE_FILE), Err(Errno::EACCES));
-//! assert_eq!(tables.port(worker, 80, PortRights::CONNECT_TCP), Err(Errno::EACCES));
+//! assert_eq!(tables.access(worker, page, AccessFs::READ_FILE), Ok(()));
+//! assert_eq!(tables.access(worker, page, AccessFs::WRITE_FILE), Err(Errno::EACCES));
+//! assert_eq!(tables.port(worker, 80, AccessNet::CONNECT_TCP), Err(Errno::EACCES));
 //! # Ok::<(), Errno>(())
 //! ```
 //!
@@ -43,7 +44,7 @@
 //! where that is granted but the table would gain a right by the move.
 //!
 //! ```
-//! use skeinrabbit::{Entry, Errno, Kind, Level, Rights, Tables, Thread};
+//! use skeinrabbit::{AccessFs, Entry, Errno, Kind, Level, Tables, Thread};
 //!
 //! let mut tables = Tables::new(Level::LATEST)?;
 //! let cal = tables.create(Thread::MAIN, Entry::ROOT, Kind::DIRECTORY)?;
@@ -52,16 +53,16 @@
 //!
 //! let plugin = tables.clone_thread(Thread::MAIN)?;
 //! tables.set_no_new_privs(plugin)?;
-//! let all = Rights::READ_FILE | Rights::WRITE_FILE | Rights::REMOVE_FILE | Rights::MAKE_REG | Rights::REFER;
+//! let all = AccessFs::READ_FILE | AccessFs::WRITE_FILE | AccessFs::REMOVE_FILE | AccessFs::MAKE_REG | AccessFs::REFER;
 //! tables
 //!     .ruleset()
 //!     .handle_fs(all)
 //!     .create()?
-//!     .add_path(cal, Rights::READ_FILE)?
+//!     .add_path(cal, AccessFs::READ_FILE)?
 //!     .add_path(import, all)?
 //!     .restrict(plugin)?;
 //!
-//! assert_eq!(tables.access(plugin, table, Rights::WRITE_FILE), Err(Errno::EACCES));
+//! assert_eq!(tables.access(plugin, table, AccessFs::WRITE_FILE), Err(Errno::EACCES));
 //! assert_eq!(tables.rename(plugin, table, import, None), Err(Errno::EACCES));
 //!
 //! // Another plug-in may even take files out of the tree. The table still does not go where it could be written.
@@ -71,7 +72,7 @@
 //!     .ruleset()
 //!     .handle_fs(all)
 //!     .create()?
-//!     .add_path(cal, all - Rights::WRITE_FILE)?
+//!     .add_path(cal, all - AccessFs::WRITE_FILE)?
 //!     .add_path(import, all)?
 //!     .restrict(mover)?;
 //! assert_eq!(tables.rename(mover, table, import, None), Err(Errno::EXDEV));
@@ -83,6 +84,11 @@
 //! Entries, rulesets, threads, layers, kinds, levels and sets of rights are numbers with a type of their own. Any number may
 //! stand in any of them: the core tests what it gets, and a number that means nothing is refused as the specification says. No
 //! method of this crate panics.
+//!
+//! # Without `std`
+//!
+//! The feature `std`, on by default, makes an [`Errno`] a `std::io::Error`. Without it the crate needs `alloc` alone.
+#![cfg_attr(not(test), no_std)]
 #![forbid(unsafe_code)]
 #![deny(missing_docs)]
 #![cfg_attr(
@@ -95,9 +101,13 @@
     )
 )]
 
+extern crate alloc;
+
 mod builder;
 mod cells;
 mod errno;
+#[cfg(feature = "std")]
+mod io;
 mod kind;
 mod level;
 mod numbers;
@@ -115,7 +125,7 @@ pub use errno::Errno;
 pub use kind::Kind;
 pub use level::Level;
 pub use numbers::{Entry, Layer, Ruleset, Thread};
-pub use rights::{PortRights, Rights, Scopes};
+pub use rights::{AccessFs, AccessNet, PortRights, Rights, Scope, Scopes};
 pub use rows::{Attribute, EntryRow, LayerRow, RulesetRow, ThreadRow};
 pub use rules::{Rule, Rules, RulesIter};
 pub use tables::Tables;

@@ -1,5 +1,5 @@
 //! Numbers of entries, rulesets, threads and layers.
-use std::fmt;
+use core::fmt;
 
 macro_rules! number {
     ($(#[$doc:meta])* $name:ident) => {
@@ -42,6 +42,17 @@ number! {
 
 number! {
     /// A ruleset, one of 16.
+    ///
+    /// One whose number is dropped restricts no thread, and the compiler warns of it:
+    ///
+    /// ```compile_fail
+    /// #![deny(unused_must_use)]
+    /// # use skeinrabbit::*;
+    /// let mut tables = Tables::new(Level::LATEST)?;
+    /// tables.create_ruleset(&[4, 0, 0, 0, 0, 0, 0, 0], 0)?;
+    /// # Ok::<(), Errno>(())
+    /// ```
+    #[must_use = "a ruleset restricts no thread before `Tables::restrict`"]
     Ruleset
 }
 

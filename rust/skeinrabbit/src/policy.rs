@@ -1,7 +1,7 @@
 //! The calls that leave the tree alone: rulesets, threads and requests.
 use crate::errno::Errno;
 use crate::numbers::{Entry, Layer, Ruleset, Thread};
-use crate::rights::{PortRights, Rights};
+use crate::rights::{AccessFs, AccessNet};
 use crate::rules::Rules;
 use crate::tables::Tables;
 use skeinrabbit_sys as sys;
@@ -54,16 +54,16 @@ impl Tables {
     /// ```
     /// # use skeinrabbit::*;
     /// let mut tables = Tables::new(Level::LATEST)?;
-    /// let ruleset = tables.ruleset().handle_fs(Rights::READ_FILE).create()?.keep();
-    /// assert_eq!(tables.add_path_rule(ruleset, Entry::ROOT, Rights::READ_FILE, 0), Ok(()));
-    /// assert_eq!(tables.add_path_rule(ruleset, Entry::ROOT, Rights::REFER, 0), Err(Errno::EINVAL));
+    /// let ruleset = tables.ruleset().handle_fs(AccessFs::READ_FILE).create()?.keep();
+    /// assert_eq!(tables.add_path_rule(ruleset, Entry::ROOT, AccessFs::READ_FILE, 0), Ok(()));
+    /// assert_eq!(tables.add_path_rule(ruleset, Entry::ROOT, AccessFs::REFER, 0), Err(Errno::EINVAL));
     /// # Ok::<(), Errno>(())
     /// ```
     pub fn add_path_rule(
         &mut self,
         ruleset: Ruleset,
         entry: Entry,
-        rights: Rights,
+        rights: AccessFs,
         flags: u64,
     ) -> Result<(), Errno> {
         let (ruleset, entry) = (ruleset.number(), entry.number());
@@ -79,16 +79,16 @@ impl Tables {
     /// ```
     /// # use skeinrabbit::*;
     /// let mut tables = Tables::new(Level::LATEST)?;
-    /// let ruleset = tables.ruleset().handle_net(PortRights::ALL).create()?.keep();
-    /// assert_eq!(tables.add_port_rule(ruleset, 80, PortRights::BIND_TCP, 0), Ok(()));
-    /// assert_eq!(tables.add_port_rule(ruleset, 65_536, PortRights::BIND_TCP, 0), Err(Errno::EINVAL));
+    /// let ruleset = tables.ruleset().handle_net(AccessNet::ALL).create()?.keep();
+    /// assert_eq!(tables.add_port_rule(ruleset, 80, AccessNet::BIND_TCP, 0), Ok(()));
+    /// assert_eq!(tables.add_port_rule(ruleset, 65_536, AccessNet::BIND_TCP, 0), Err(Errno::EINVAL));
     /// # Ok::<(), Errno>(())
     /// ```
     pub fn add_port_rule(
         &mut self,
         ruleset: Ruleset,
         port: u64,
-        rights: PortRights,
+        rights: AccessNet,
         flags: u64,
     ) -> Result<(), Errno> {
         let raw = sys::add_port_rule(
@@ -101,7 +101,8 @@ impl Tables {
         Errno::answer(raw).map(drop)
     }
 
-    /// Gives a thread a layer made of a ruleset as it is now. Later rules or a close do not reach the layer.
+    /// Gives a thread a layer made of a ruleset as it is now, and answers the layer's number. Later rules or a close do not reach
+    /// the layer.
     ///
     /// Refusals, in order: tables not sound, EIO; thread not live, ESRCH; level 0, EOPNOTSUPP; neither mark set, EPERM; flags
     /// not 0, EINVAL; ruleset not open, EBADF; 16 layers already, E2BIG; no free layer or too few free pool rules, ENOMEM.
@@ -109,15 +110,23 @@ impl Tables {
     /// ```
     /// # use skeinrabbit::*;
     /// let mut tables = Tables::new(Level::LATEST)?;
-    /// let ruleset = tables.ruleset().handle_fs(Rights::READ_FILE).create()?.keep();
+    /// let ruleset = tables.ruleset().handle_fs(AccessFs::READ_FILE).create()?.keep();
     /// assert_eq!(tables.restrict(Thread::MAIN, ruleset, 0), Err(Errno::EPERM));
     /// tables.set_no_new_privs(Thread::MAIN)?;
-    /// assert_eq!(tables.restrict(Thread::MAIN, ruleset, 0), Ok(()));
+    /// let layer = tables.restrict(Thread::MAIN, ruleset, 0)?;
+    /// assert_eq!(tables.thread(Thread::MAIN).and_then(|row| row.youngest), Some(layer));
     /// # Ok::<(), Errno>(())
     /// ```
-    pub fn restrict(&mut self, thread: Thread, ruleset: Ruleset, flags: u64) -> Result<(), Errno> {
+    pub fn restrict(
+        &mut self,
+        thread: Thread,
+        ruleset: Ruleset,
+        flags: u64,
+    ) -> Result<Layer, Errno> {
+        // The core answers 0; a new layer takes the next record.
+        let [_, _, layers_used, _] = *self.cells().system;
         let raw = sys::restrict(&mut self.raw(), thread.number(), ruleset.number(), flags);
-        Errno::answer(raw).map(drop)
+        Errno::answer(raw).map(|_| Layer::new(layers_used))
     }
 
     /// The rules of a layer: a part of the pool, not a copy.
@@ -128,21 +137,21 @@ impl Tables {
     /// # use skeinrabbit::*;
     /// let mut tables = Tables::new(Level::LATEST)?;
     /// tables.set_no_new_privs(Thread::MAIN)?;
-    /// tables
+    /// let layer = tables
     ///     .ruleset()
-    ///     .handle_fs(Rights::READ_FILE)
+    ///     .handle_fs(AccessFs::READ_FILE)
     ///     .create()?
-    ///     .add_path(Entry::ROOT, Rights::READ_FILE)?
+    ///     .add_path(Entry::ROOT, AccessFs::READ_FILE)?
     ///     .restrict(Thread::MAIN)?;
-    /// let rules = tables.layer_rules(Layer::new(0))?;
+    /// let rules = tables.layer_rules(layer)?;
     /// let all: Vec<Rule> = rules.iter().collect();
-    /// assert_eq!(all, [Rule::Path { object: 0, rights: Rights::READ_FILE }]);
+    /// assert_eq!(all, [Rule::Path { object: 0, rights: AccessFs::READ_FILE }]);
     /// assert_eq!(tables.layer_rules(Layer::new(1)), Err(Errno::EBADF));
     /// # Ok::<(), Errno>(())
     /// ```
-    pub fn layer_rules(&mut self, layer: Layer) -> Result<Rules<'_>, Errno> {
+    pub fn layer_rules(&self, layer: Layer) -> Result<Rules<'_>, Errno> {
         let mut part = [0; 2];
-        let raw = sys::layer_rules(&mut self.raw(), layer.number(), &mut part);
+        let raw = sys::layer_rules(self.shared(), layer.number(), &mut part);
         Errno::answer(raw)?;
         Ok(Rules::new(self.pool_part(part).unwrap_or_default()))
     }
@@ -217,17 +226,17 @@ impl Tables {
     /// tables.set_no_new_privs(Thread::MAIN)?;
     /// tables
     ///     .ruleset()
-    ///     .handle_fs(Rights::READ_DIR | Rights::MAKE_DIR)
+    ///     .handle_fs(AccessFs::READ_DIR | AccessFs::MAKE_DIR)
     ///     .create()?
-    ///     .add_path(Entry::ROOT, Rights::READ_DIR)?
+    ///     .add_path(Entry::ROOT, AccessFs::READ_DIR)?
     ///     .restrict(Thread::MAIN)?;
-    /// assert_eq!(tables.access(Thread::MAIN, Entry::ROOT, Rights::READ_DIR), Ok(()));
-    /// assert_eq!(tables.access(Thread::MAIN, Entry::ROOT, Rights::MAKE_DIR), Err(Errno::EACCES));
+    /// assert_eq!(tables.access(Thread::MAIN, Entry::ROOT, AccessFs::READ_DIR), Ok(()));
+    /// assert_eq!(tables.access(Thread::MAIN, Entry::ROOT, AccessFs::MAKE_DIR), Err(Errno::EACCES));
     /// # Ok::<(), Errno>(())
     /// ```
-    pub fn access(&mut self, thread: Thread, entry: Entry, rights: Rights) -> Result<(), Errno> {
+    pub fn access(&self, thread: Thread, entry: Entry, rights: AccessFs) -> Result<(), Errno> {
         let (thread, entry) = (thread.number(), entry.number());
-        let raw = sys::access(&mut self.raw(), thread, entry, rights.bits());
+        let raw = sys::access(self.shared(), thread, entry, rights.bits());
         Errno::answer(raw).map(drop)
     }
 
@@ -242,17 +251,17 @@ impl Tables {
     /// tables.set_no_new_privs(Thread::MAIN)?;
     /// tables
     ///     .ruleset()
-    ///     .handle_net(PortRights::BIND_TCP)
+    ///     .handle_net(AccessNet::BIND_TCP)
     ///     .create()?
-    ///     .add_port(80, PortRights::BIND_TCP)?
+    ///     .add_port(80, AccessNet::BIND_TCP)?
     ///     .restrict(Thread::MAIN)?;
-    /// assert_eq!(tables.port(Thread::MAIN, 80, PortRights::BIND_TCP), Ok(()));
-    /// assert_eq!(tables.port(Thread::MAIN, 81, PortRights::BIND_TCP), Err(Errno::EACCES));
-    /// assert_eq!(tables.port(Thread::MAIN, 81, PortRights::CONNECT_TCP), Ok(()));
+    /// assert_eq!(tables.port(Thread::MAIN, 80, AccessNet::BIND_TCP), Ok(()));
+    /// assert_eq!(tables.port(Thread::MAIN, 81, AccessNet::BIND_TCP), Err(Errno::EACCES));
+    /// assert_eq!(tables.port(Thread::MAIN, 81, AccessNet::CONNECT_TCP), Ok(()));
     /// # Ok::<(), Errno>(())
     /// ```
-    pub fn port(&mut self, thread: Thread, port: u64, rights: PortRights) -> Result<(), Errno> {
-        let raw = sys::port(&mut self.raw(), thread.number(), port, rights.bits());
+    pub fn port(&self, thread: Thread, port: u64, rights: AccessNet) -> Result<(), Errno> {
+        let raw = sys::port(self.shared(), thread.number(), port, rights.bits());
         Errno::answer(raw).map(drop)
     }
 }

@@ -1,9 +1,9 @@
-//! Sets of rights: for files, for ports, and scopes.
+//! Sets of rights: for files, for ports, and scopes. Where the crate `landlock` has the same thing, it has the same name.
 use crate::level::Level;
 use crate::text::{read_mask, write_mask, ParseError};
-use std::fmt;
-use std::ops::{BitAnd, BitAndAssign, BitOr, BitOrAssign, Sub, SubAssign};
-use std::str::FromStr;
+use core::fmt;
+use core::ops::{BitAnd, BitAndAssign, BitOr, BitOrAssign, Sub, SubAssign};
+use core::str::FromStr;
 
 macro_rules! set {
     (
@@ -44,6 +44,11 @@ macro_rules! set {
             /// Whether everything in `other` is in this set.
             pub const fn contains(self, other: Self) -> bool {
                 self.0 & other.0 == other.0
+            }
+
+            /// [`Self::from_all`], under its earlier name.
+            pub const fn of_level(level: Level) -> Self {
+                Self::from_all(level)
             }
 
             /// The named rights in the set, one by one, lowest bit first.
@@ -122,18 +127,18 @@ macro_rules! set {
 }
 
 set! {
-    /// Rights at the file system.
+    /// Rights at the file system: a set of them, which may be one right alone.
     ///
     /// ```
-    /// use skeinrabbit::Rights;
-    /// let edit = Rights::READ_FILE | Rights::WRITE_FILE;
+    /// use skeinrabbit::AccessFs;
+    /// let edit = AccessFs::READ_FILE | AccessFs::WRITE_FILE;
     /// assert_eq!(edit.to_string(), "write_file+read_file");
     /// assert_eq!("read_file+write_file".parse(), Ok(edit));
-    /// assert_eq!(edit - Rights::WRITE_FILE, Rights::READ_FILE);
-    /// assert!(edit.contains(Rights::READ_FILE));
-    /// assert_eq!(Rights::FILE_SET.bits(), 0xc007);
+    /// assert_eq!(edit - AccessFs::WRITE_FILE, AccessFs::READ_FILE);
+    /// assert!(edit.contains(AccessFs::READ_FILE));
+    /// assert_eq!(AccessFs::FILE_SET.bits(), 0xc007);
     /// ```
-    Rights, "a number, or rights at files joined by + (read_file+write_file), or none",
+    AccessFs, "a number, or rights at files joined by + (read_file+write_file), or none",
     /// Execute a file.
     EXECUTE = 0, "execute";
     /// Open a file to write it.
@@ -168,19 +173,30 @@ set! {
     IOCTL_DEV = 15, "ioctl_dev";
 }
 
-impl Rights {
+impl AccessFs {
     /// The rights that something other than a directory can have.
-    pub const FILE_SET: Rights = Rights(
-        Rights::EXECUTE.0
-            | Rights::WRITE_FILE.0
-            | Rights::READ_FILE.0
-            | Rights::TRUNCATE.0
-            | Rights::IOCTL_DEV.0,
+    pub const FILE_SET: AccessFs = AccessFs(
+        AccessFs::EXECUTE.0
+            | AccessFs::WRITE_FILE.0
+            | AccessFs::READ_FILE.0
+            | AccessFs::TRUNCATE.0
+            | AccessFs::IOCTL_DEV.0,
     );
 
-    /// The rights that a ruleset can handle at a level.
-    pub fn of_level(level: Level) -> Rights {
-        Rights(match level.number() {
+    /// The rights that read.
+    const READ: AccessFs =
+        AccessFs(AccessFs::EXECUTE.0 | AccessFs::READ_FILE.0 | AccessFs::READ_DIR.0);
+
+    /// All rights that a ruleset can handle at a level. A ruleset that handles them denies whatever it does not grant.
+    ///
+    /// ```
+    /// use skeinrabbit::{AccessFs, Level};
+    /// assert_eq!(AccessFs::from_all(Level::LATEST), AccessFs::ALL);
+    /// assert_eq!(AccessFs::from_all(Level::new(4)), AccessFs::ALL - AccessFs::IOCTL_DEV);
+    /// assert_eq!(AccessFs::from_all(Level::DISABLED), AccessFs::NONE);
+    /// ```
+    pub const fn from_all(level: Level) -> AccessFs {
+        AccessFs(match level.number() {
             1 => 0x1fff,
             2 => 0x3fff,
             3 | 4 => 0x7fff,
@@ -188,55 +204,114 @@ impl Rights {
             _ => 0,
         })
     }
-}
 
-set! {
-    /// Rights at TCP ports.
+    /// The rights of a level that read: execute a file, read it, list a directory.
     ///
     /// ```
-    /// use skeinrabbit::PortRights;
-    /// assert_eq!(PortRights::ALL.to_string(), "bind_tcp+connect_tcp");
+    /// use skeinrabbit::{AccessFs, Level};
+    /// let read = AccessFs::from_read(Level::LATEST);
+    /// assert_eq!(read.to_string(), "execute+read_file+read_dir");
     /// ```
-    PortRights, "a number, or rights at ports joined by + (bind_tcp+connect_tcp), or none",
+    pub const fn from_read(level: Level) -> AccessFs {
+        AccessFs(AccessFs::from_all(level).0 & AccessFs::READ.0)
+    }
+
+    /// The rights of a level that write: all that do not read. REFER is among them from level 2 on, TRUNCATE from 3, IOCTL_DEV
+    /// from 5.
+    ///
+    /// ```
+    /// use skeinrabbit::{AccessFs, Level};
+    /// let write = AccessFs::from_write(Level::new(2));
+    /// assert!(write.contains(AccessFs::WRITE_FILE | AccessFs::MAKE_REG | AccessFs::REFER));
+    /// assert!(!write.contains(AccessFs::TRUNCATE));
+    /// assert_eq!(write & AccessFs::from_read(Level::new(2)), AccessFs::NONE);
+    /// ```
+    pub const fn from_write(level: Level) -> AccessFs {
+        AccessFs(AccessFs::from_all(level).0 & !AccessFs::READ.0)
+    }
+
+    /// The rights of a level that something other than a directory can have: a rule on a file can grant no others.
+    ///
+    /// ```
+    /// use skeinrabbit::{AccessFs, Level};
+    /// let level = Level::LATEST;
+    /// assert_eq!(AccessFs::from_file(level), AccessFs::FILE_SET);
+    /// let read = AccessFs::from_read(level) & AccessFs::from_file(level);
+    /// assert_eq!(read, AccessFs::EXECUTE | AccessFs::READ_FILE);
+    /// ```
+    pub const fn from_file(level: Level) -> AccessFs {
+        AccessFs(AccessFs::from_all(level).0 & AccessFs::FILE_SET.0)
+    }
+}
+
+/// [`AccessFs`], under its earlier name.
+pub type Rights = AccessFs;
+
+set! {
+    /// Rights at TCP ports: a set of them, which may be one right alone.
+    ///
+    /// ```
+    /// use skeinrabbit::AccessNet;
+    /// assert_eq!(AccessNet::ALL.to_string(), "bind_tcp+connect_tcp");
+    /// ```
+    AccessNet, "a number, or rights at ports joined by + (bind_tcp+connect_tcp), or none",
     /// Bind a socket to a port.
     BIND_TCP = 0, "bind_tcp";
     /// Connect a socket to a port.
     CONNECT_TCP = 1, "connect_tcp";
 }
 
-impl PortRights {
-    /// The rights that a ruleset can handle at a level.
-    pub fn of_level(level: Level) -> PortRights {
+impl AccessNet {
+    /// All rights that a ruleset can handle at a level: both from level 4 on.
+    ///
+    /// ```
+    /// use skeinrabbit::{AccessNet, Level};
+    /// assert_eq!(AccessNet::from_all(Level::new(4)), AccessNet::BIND_TCP | AccessNet::CONNECT_TCP);
+    /// assert_eq!(AccessNet::from_all(Level::new(3)), AccessNet::NONE);
+    /// ```
+    pub const fn from_all(level: Level) -> AccessNet {
         match level.number() {
-            4..=6 => PortRights::ALL,
-            _ => PortRights::NONE,
+            4..=6 => AccessNet::ALL,
+            _ => AccessNet::NONE,
         }
     }
 }
 
+/// [`AccessNet`], under its earlier name.
+pub type PortRights = AccessNet;
+
 set! {
-    /// What a ruleset keeps within its domain. Scopes are stored only.
+    /// What a ruleset keeps within its domain: a set of scopes, which are stored only.
     ///
     /// ```
-    /// use skeinrabbit::Scopes;
-    /// assert_eq!("signal".parse(), Ok(Scopes::SIGNAL));
+    /// use skeinrabbit::Scope;
+    /// assert_eq!("signal".parse(), Ok(Scope::SIGNAL));
     /// ```
-    Scopes, "a number, or scopes joined by + (abstract_unix_socket+signal), or none",
+    Scope, "a number, or scopes joined by + (abstract_unix_socket+signal), or none",
     /// Abstract UNIX sockets.
     ABSTRACT_UNIX_SOCKET = 0, "abstract_unix_socket";
     /// Signals.
     SIGNAL = 1, "signal";
 }
 
-impl Scopes {
-    /// The scopes that a ruleset can ask for at a level.
-    pub fn of_level(level: Level) -> Scopes {
+impl Scope {
+    /// All scopes that a ruleset can ask for at a level: both at level 6.
+    ///
+    /// ```
+    /// use skeinrabbit::{Level, Scope};
+    /// assert_eq!(Scope::from_all(Level::new(6)), Scope::ABSTRACT_UNIX_SOCKET | Scope::SIGNAL);
+    /// assert_eq!(Scope::from_all(Level::new(5)), Scope::NONE);
+    /// ```
+    pub const fn from_all(level: Level) -> Scope {
         match level.number() {
-            6 => Scopes::ALL,
-            _ => Scopes::NONE,
+            6 => Scope::ALL,
+            _ => Scope::NONE,
         }
     }
 }
+
+/// [`Scope`], under its earlier name.
+pub type Scopes = Scope;
 
 #[cfg(test)]
 mod tests {
@@ -244,13 +319,13 @@ mod tests {
 
     #[test]
     fn every_right_has_its_bit_and_name() {
-        for (bit, right) in Rights::ALL.iter().enumerate() {
+        for (bit, right) in AccessFs::ALL.iter().enumerate() {
             assert_eq!(right.bits(), 1 << bit);
             assert_eq!(right.to_string().parse(), Ok(right));
             assert_eq!(right.to_string().to_uppercase().parse(), Ok(right));
         }
-        assert_eq!(Rights::ALL.bits(), 0xffff);
-        assert_eq!(Rights::ALL.iter().count(), 16);
+        assert_eq!(AccessFs::ALL.bits(), 0xffff);
+        assert_eq!(AccessFs::ALL.iter().count(), 16);
     }
 
     #[test]
@@ -259,11 +334,11 @@ mod tests {
             .map(|n| (1 << n) - 1)
             .chain([8486, 1 << 63, u64::MAX])
         {
-            let rights = Rights::from_bits(bits);
+            let rights = AccessFs::from_bits(bits);
             assert_eq!(rights.to_string().parse(), Ok(rights));
         }
-        assert_eq!(Rights::NONE.to_string(), "none");
-        assert_eq!(Rights::from_bits(0x1_0004).to_string(), "0x10004");
+        assert_eq!(AccessFs::NONE.to_string(), "none");
+        assert_eq!(AccessFs::from_bits(0x1_0004).to_string(), "0x10004");
     }
 
     #[test]
@@ -278,27 +353,68 @@ mod tests {
             "bind_tcp",
             "-1",
         ] {
-            assert!(text.parse::<Rights>().is_err(), "{text}");
+            assert!(text.parse::<AccessFs>().is_err(), "{text}");
         }
-        assert!("read_file".parse::<PortRights>().is_err());
+        assert!("read_file".parse::<AccessNet>().is_err());
     }
 
     #[test]
     fn levels_know_their_rights() {
-        let of = |level| Rights::of_level(Level::new(level));
-        assert_eq!(of(0), Rights::NONE);
+        let of = |level| AccessFs::from_all(Level::new(level));
+        assert_eq!(of(0), AccessFs::NONE);
         assert_eq!(
             of(1),
-            Rights::ALL - (Rights::REFER | Rights::TRUNCATE | Rights::IOCTL_DEV)
+            AccessFs::ALL - (AccessFs::REFER | AccessFs::TRUNCATE | AccessFs::IOCTL_DEV)
         );
-        assert_eq!(of(2), of(1) | Rights::REFER);
-        assert_eq!(of(3), of(2) | Rights::TRUNCATE);
+        assert_eq!(of(2), of(1) | AccessFs::REFER);
+        assert_eq!(of(3), of(2) | AccessFs::TRUNCATE);
         assert_eq!(of(4), of(3));
-        assert_eq!(of(5), Rights::ALL);
-        assert_eq!(of(6), Rights::ALL);
-        assert_eq!(PortRights::of_level(Level::new(3)), PortRights::NONE);
-        assert_eq!(PortRights::of_level(Level::new(4)), PortRights::ALL);
-        assert_eq!(Scopes::of_level(Level::new(5)), Scopes::NONE);
-        assert_eq!(Scopes::of_level(Level::LATEST), Scopes::ALL);
+        assert_eq!(of(5), AccessFs::ALL);
+        assert_eq!(of(6), AccessFs::ALL);
+        assert_eq!(of(7), AccessFs::NONE);
+        let both = |level| {
+            let level = Level::new(level);
+            (AccessNet::from_all(level), Scope::from_all(level))
+        };
+        assert_eq!(both(0), (AccessNet::NONE, Scope::NONE));
+        assert_eq!(both(3), (AccessNet::NONE, Scope::NONE));
+        assert_eq!(both(4), (AccessNet::ALL, Scope::NONE));
+        assert_eq!(both(5), (AccessNet::ALL, Scope::NONE));
+        assert_eq!(both(6), (AccessNet::ALL, Scope::ALL));
+        assert_eq!(both(7), (AccessNet::NONE, Scope::NONE));
+    }
+
+    /// The bits that the crate `landlock` puts in each group, by level.
+    #[test]
+    fn groups_are_those_of_the_crate_landlock() {
+        const WRITE: u64 = 0b1_1111_1111_0010;
+        const REFER: u64 = 1 << 13;
+        const TRUNCATE: u64 = 1 << 14;
+        const IOCTL_DEV: u64 = 1 << 15;
+        for (level, at_directories, at_files) in [
+            (1, 0, 0),
+            (2, REFER, 0),
+            (3, REFER, TRUNCATE),
+            (4, REFER, TRUNCATE),
+            (5, REFER, TRUNCATE | IOCTL_DEV),
+            (6, REFER, TRUNCATE | IOCTL_DEV),
+        ] {
+            let level = Level::new(level);
+            let write = WRITE | at_directories | at_files;
+            assert_eq!(AccessFs::from_read(level).bits(), 0b1101, "{level}");
+            assert_eq!(AccessFs::from_write(level).bits(), write, "{level}");
+            assert_eq!(
+                AccessFs::from_file(level).bits(),
+                0b111 | at_files,
+                "{level}"
+            );
+        }
+        for group in [
+            AccessFs::from_read,
+            AccessFs::from_write,
+            AccessFs::from_file,
+        ] {
+            assert_eq!(group(Level::DISABLED), AccessFs::NONE);
+        }
     }
 }

@@ -3,7 +3,7 @@ use crate::cells::Table;
 use crate::kind::Kind;
 use crate::level::Level;
 use crate::numbers::{Entry, Layer, Ruleset, Thread};
-use crate::rights::{PortRights, Rights, Scopes};
+use crate::rights::{AccessFs, AccessNet, Scope};
 use crate::rules::Rules;
 use crate::tables::Tables;
 
@@ -59,19 +59,19 @@ pub struct ThreadRow {
 #[derive(Clone, Copy, Debug, PartialEq, Eq, Default)]
 pub struct Attribute {
     /// Rights at the file system.
-    pub fs: Rights,
+    pub fs: AccessFs,
     /// Rights at ports.
-    pub net: PortRights,
+    pub net: AccessNet,
     /// Scopes.
-    pub scope: Scopes,
+    pub scope: Scope,
 }
 
 impl Attribute {
     /// The attribute as [`Tables::create_ruleset`] takes it: three masks of eight bytes, lowest byte first.
     ///
     /// ```
-    /// use skeinrabbit::{Attribute, Rights};
-    /// let attribute = Attribute { fs: Rights::MAKE_REG, ..Attribute::default() };
+    /// use skeinrabbit::{AccessFs, Attribute};
+    /// let attribute = Attribute { fs: AccessFs::MAKE_REG, ..Attribute::default() };
     /// assert_eq!(attribute.to_bytes()[..3], [0, 1, 0]);
     /// ```
     pub fn to_bytes(self) -> [u8; 24] {
@@ -85,9 +85,9 @@ impl Attribute {
 
     fn from_cells(fs: u64, net: u64, scope: u64) -> Self {
         Self {
-            fs: Rights::from_bits(fs),
-            net: PortRights::from_bits(net),
-            scope: Scopes::from_bits(scope),
+            fs: AccessFs::from_bits(fs),
+            net: AccessNet::from_bits(net),
+            scope: Scope::from_bits(scope),
         }
     }
 }
@@ -192,6 +192,6 @@ impl Tables {
     pub fn domain(&self, thread: Thread) -> impl Iterator<Item = LayerRow> + '_ {
         let youngest = self.thread(thread).and_then(|row| row.youngest);
         let first = youngest.and_then(|layer| self.layer(layer));
-        std::iter::successors(first, |row| row.parent.and_then(|layer| self.layer(layer))).take(16)
+        core::iter::successors(first, |row| row.parent.and_then(|layer| self.layer(layer))).take(16)
     }
 }

@@ -1,7 +1,7 @@
 //! Rules, as they stand in the cells.
-use crate::rights::{PortRights, Rights};
-use std::fmt;
-use std::slice::ChunksExact;
+use crate::rights::{AccessFs, AccessNet};
+use core::fmt;
+use core::slice::ChunksExact;
 
 /// What a ruleset or layer grants at one object or port.
 #[derive(Clone, Copy, Debug, PartialEq, Eq)]
@@ -11,14 +11,14 @@ pub enum Rule {
         /// The object's number.
         object: u64,
         /// What is granted.
-        rights: Rights,
+        rights: AccessFs,
     },
     /// Rights at a port.
     Port {
         /// The port.
         port: u64,
         /// What is granted.
-        rights: PortRights,
+        rights: AccessNet,
     },
 }
 
@@ -27,11 +27,11 @@ impl Rule {
         match *cells {
             [1, object, rights] => Some(Rule::Path {
                 object,
-                rights: Rights::from_bits(rights),
+                rights: AccessFs::from_bits(rights),
             }),
             [2, port, rights] => Some(Rule::Port {
                 port,
-                rights: PortRights::from_bits(rights),
+                rights: AccessNet::from_bits(rights),
             }),
             _ => None,
         }

@@ -2,19 +2,21 @@
 use crate::cells::Cells;
 use crate::errno::Errno;
 use crate::level::Level;
-use crate::numbers::Ruleset;
-use std::fmt;
+use crate::numbers::{Entry, Thread};
+use crate::rights::AccessFs;
+use core::fmt;
+use skeinrabbit_sys as sys;
 
 /// All state of the broker: the file tree, rulesets, layers and threads.
 ///
 /// The methods that are calls answer as document 01 says, and first of all EIO where the tables are not sound.
-/// A refusal changes nothing. Calls take `&mut self`, those that change nothing too, because the core borrows all cells.
+/// A refusal changes nothing. Requests and all else that changes nothing take `&self`, and may come from many threads at once.
 ///
 /// ```
 /// # use skeinrabbit::*;
 /// let mut tables = Tables::new(Level::LATEST)?;
 /// let file = tables.create(Thread::MAIN, Entry::ROOT, Kind::REGULAR)?;
-/// assert_eq!(tables.access(Thread::MAIN, file, Rights::WRITE_FILE), Ok(()));
+/// assert_eq!(tables.access(Thread::MAIN, file, AccessFs::WRITE_FILE), Ok(()));
 /// # Ok::<(), Errno>(())
 /// ```
 #[derive(Clone, PartialEq, Eq)]
@@ -51,7 +53,7 @@ impl Tables {
     /// # Ok::<(), Errno>(())
     /// ```
     pub fn fresh(&mut self, level: Level) -> Result<(), Errno> {
-        let raw = skeinrabbit_sys::fresh(&mut self.raw(), level.number());
+        let raw = sys::fresh(&mut self.raw(), level.number());
         Errno::answer(raw).map(drop)
     }
 
@@ -61,8 +63,8 @@ impl Tables {
     /// # use skeinrabbit::*;
     /// let mut cells = Tables::new(Level::LATEST)?.into_cells();
     /// cells.threads[3] = 7; // an admin mark is 0 or 1
-    /// let mut tables = Tables::from_cells(cells);
-    /// assert_eq!(tables.access(Thread::MAIN, Entry::ROOT, Rights::READ_DIR), Err(Errno::EIO));
+    /// let tables = Tables::from_cells(cells);
+    /// assert_eq!(tables.access(Thread::MAIN, Entry::ROOT, AccessFs::READ_DIR), Err(Errno::EIO));
     /// # Ok::<(), Errno>(())
     /// ```
     pub fn from_cells(cells: Cells) -> Self {
@@ -86,12 +88,17 @@ impl Tables {
     /// assert!(Tables::new(Level::DISABLED)?.is_sound());
     /// # Ok::<(), Errno>(())
     /// ```
-    pub fn is_sound(&mut self) -> bool {
-        // No ruleset has this number: sound tables answer EBADF, others EIO, and neither changes.
-        self.close_ruleset(Ruleset::new(u64::MAX)) == Err(Errno::EBADF)
+    pub fn is_sound(&self) -> bool {
+        // No thread has this number: sound tables answer ESRCH, others EIO.
+        let nobody = Thread::new(u64::MAX);
+        self.access(nobody, Entry::ROOT, AccessFs::NONE) == Err(Errno::ESRCH)
     }
 
-    pub(crate) fn raw(&mut self) -> skeinrabbit_sys::Cells<'_> {
+    pub(crate) fn shared(&self) -> sys::SharedCells<'_> {
+        self.cells.shared()
+    }
+
+    pub(crate) fn raw(&mut self) -> sys::Cells<'_> {
         self.cells.raw()
     }
 }

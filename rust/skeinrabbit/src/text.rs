@@ -1,5 +1,8 @@
 //! Reading numbers and names.
-use std::fmt;
+use alloc::borrow::ToOwned;
+use alloc::format;
+use alloc::string::String;
+use core::fmt;
 
 /// Text that is not what a type is written as.
 #[derive(Clone, Debug, PartialEq, Eq)]
@@ -25,7 +28,7 @@ impl fmt::Display for ParseError {
     }
 }
 
-impl std::error::Error for ParseError {}
+impl core::error::Error for ParseError {}
 
 /// Reads a number: decimal, or hexadecimal after `0x`, up to 2^64 - 1, without a sign.
 ///

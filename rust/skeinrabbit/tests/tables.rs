@@ -8,23 +8,23 @@ const CALLS: [Call; 17] = [
     |t, [a, b, ..]| t.create_ruleset(&a.to_le_bytes(), b).map(Ruleset::number),
     |t, [a, ..]| t.close_ruleset(a.into()).map(|()| 0),
     |t, [a, b, c, d, _]| {
-        t.add_path_rule(a.into(), b.into(), Rights::from_bits(c), d)
+        t.add_path_rule(a.into(), b.into(), AccessFs::from_bits(c), d)
             .map(|()| 0)
     },
     |t, [a, b, c, d, _]| {
-        t.add_port_rule(a.into(), b, PortRights::from_bits(c), d)
+        t.add_port_rule(a.into(), b, AccessNet::from_bits(c), d)
             .map(|()| 0)
     },
-    |t, [a, b, c, ..]| t.restrict(a.into(), b.into(), c).map(|()| 0),
+    |t, [a, b, c, ..]| t.restrict(a.into(), b.into(), c).map(|_| 0),
     |t, [a, ..]| t.layer_rules(a.into()).map(|_| 0),
     |t, [a, ..]| t.clone_thread(a.into()).map(Thread::number),
     |t, [a, ..]| t.set_no_new_privs(a.into()).map(|()| 0),
     |t, [a, b, ..]| t.set_admin(a.into(), b != 0).map(|()| 0),
     |t, [a, b, c, ..]| {
-        t.access(a.into(), b.into(), Rights::from_bits(c))
+        t.access(a.into(), b.into(), AccessFs::from_bits(c))
             .map(|()| 0)
     },
-    |t, [a, b, c, ..]| t.port(a.into(), b, PortRights::from_bits(c)).map(|()| 0),
+    |t, [a, b, c, ..]| t.port(a.into(), b, AccessNet::from_bits(c)).map(|()| 0),
     |t, [a, b, c, ..]| {
         t.create(a.into(), b.into(), Kind::new(c))
             .map(Entry::number)
@@ -127,7 +127,7 @@ fn any_cells_can_be_looked_at() {
             *cell = noise.of(&[0, 1, 2, 3, 64, u64::MAX]);
         }
     }
-    let mut tables = Tables::from_cells(cells);
+    let tables = Tables::from_cells(cells);
     assert!(!tables.is_sound());
     assert!(tables.entries().count() <= 1024);
     assert!(tables
@@ -174,21 +174,21 @@ fn layered() -> Tables {
     tables.set_admin(Thread::MAIN, true).unwrap();
     let open = tables
         .ruleset()
-        .handle_fs(Rights::ALL)
-        .handle_net(PortRights::ALL)
+        .handle_fs(AccessFs::ALL)
+        .handle_net(AccessNet::ALL)
         .create()
         .unwrap();
-    let open = open.add_port(80, PortRights::BIND_TCP).unwrap();
-    let open = open.add_path(Entry::ROOT, Rights::READ_DIR).unwrap();
-    drop(open.restrict(Thread::MAIN).unwrap());
-    let open = tables.ruleset().scope(Scopes::SIGNAL).create().unwrap();
-    drop(open.restrict(Thread::MAIN).unwrap());
+    let open = open.add_port(80, AccessNet::BIND_TCP).unwrap();
+    let open = open.add_path(Entry::ROOT, AccessFs::READ_DIR).unwrap();
+    assert_eq!(open.restrict(Thread::MAIN), Ok(Layer::new(0)));
+    let open = tables.ruleset().scope(Scope::SIGNAL).create().unwrap();
+    assert_eq!(open.restrict(Thread::MAIN), Ok(Layer::new(1)));
     tables
 }
 
 #[test]
 fn the_rules_of_a_layer_are_a_part_of_the_pool() {
-    let mut tables = layered();
+    let tables = layered();
     let pool = tables.cells().pool.as_ptr_range();
     let rules = tables.layer_rules(Layer::new(0)).unwrap();
     assert!(pool.contains(&rules.cells().as_ptr()));
@@ -196,11 +196,11 @@ fn the_rules_of_a_layer_are_a_part_of_the_pool() {
     assert_eq!(rules.len(), 2);
     let port = Rule::Port {
         port: 80,
-        rights: PortRights::BIND_TCP,
+        rights: AccessNet::BIND_TCP,
     };
     let path = Rule::Path {
         object: 0,
-        rights: Rights::READ_DIR,
+        rights: AccessFs::READ_DIR,
     };
     assert_eq!(rules.into_iter().collect::<Vec<Rule>>(), [port, path]);
     assert!(tables.layer_rules(Layer::new(1)).unwrap().is_empty());
@@ -221,16 +221,16 @@ fn rows_show_what_the_calls_made() {
         [1, 0]
     );
     assert_eq!(layers[0].parent, Some(Layer::new(0)));
-    assert_eq!(layers[0].attribute.scope, Scopes::SIGNAL);
-    assert_eq!(layers[1].attribute.fs, Rights::ALL);
+    assert_eq!(layers[0].attribute.scope, Scope::SIGNAL);
+    assert_eq!(layers[1].attribute.fs, AccessFs::ALL);
     let attribute = Attribute {
-        fs: Rights::EXECUTE,
-        net: PortRights::CONNECT_TCP,
-        scope: Scopes::NONE,
+        fs: AccessFs::EXECUTE,
+        net: AccessNet::CONNECT_TCP,
+        scope: Scope::NONE,
     };
     let ruleset = tables.create_ruleset(&attribute.to_bytes(), 0).unwrap();
     tables
-        .add_port_rule(ruleset, 9, PortRights::CONNECT_TCP, 0)
+        .add_port_rule(ruleset, 9, AccessNet::CONNECT_TCP, 0)
         .unwrap();
     let row = tables.open_ruleset(ruleset).unwrap();
     assert_eq!((row.attribute, row.rules.len()), (attribute, 1));
@@ -244,9 +244,44 @@ fn rows_show_what_the_calls_made() {
 #[test]
 fn cells_go_out_and_come_back() {
     let tables = layered();
-    let mut again = Tables::from_cells(tables.clone().into_cells());
+    let again = Tables::from_cells(tables.clone().into_cells());
     assert_eq!(again, tables);
     assert!(again.is_sound());
+}
+
+#[test]
+fn a_new_layer_is_the_youngest_of_its_thread() {
+    let mut tables = layered();
+    let other = tables.clone_thread(Thread::MAIN).unwrap();
+    let kept = tables
+        .ruleset()
+        .handle_fs(AccessFs::REFER)
+        .create()
+        .unwrap();
+    let kept = kept.keep();
+    for (number, thread) in [(2, other), (3, Thread::MAIN), (4, other)] {
+        let layer = tables.restrict(thread, kept, 0).unwrap();
+        assert_eq!(layer, Layer::new(number));
+        assert_eq!(tables.thread(thread).unwrap().youngest, Some(layer));
+    }
+}
+
+#[test]
+fn threads_of_the_program_ask_at_once() {
+    let tables = &layered();
+    let rights = [AccessFs::READ_DIR, AccessFs::MAKE_DIR];
+    std::thread::scope(|scope| {
+        for right in rights.repeat(2) {
+            scope.spawn(move || {
+                let granted = right == AccessFs::READ_DIR;
+                for _ in 0..100 {
+                    let answer = tables.access(Thread::MAIN, Entry::ROOT, right);
+                    assert_eq!(answer.is_ok(), granted, "{right}: {answer:?}");
+                    assert_eq!(tables.layer_rules(Layer::new(0)).unwrap().len(), 2);
+                }
+            });
+        }
+    });
 }
 
 #[test]
@@ -254,17 +289,17 @@ fn an_open_ruleset_is_closed_when_it_goes() {
     let mut tables = Tables::new(Level::LATEST).unwrap();
     let open = tables
         .ruleset()
-        .handle_fs(Rights::READ_FILE)
+        .handle_fs(AccessFs::READ_FILE)
         .create()
         .unwrap();
     assert_eq!(
-        open.add_path(Entry::new(9), Rights::READ_FILE).err(),
+        open.add_path(Entry::new(9), AccessFs::READ_FILE).err(),
         Some(Errno::EBADF)
     );
     assert_eq!(tables.open_rulesets().count(), 0);
     let kept = tables
         .ruleset()
-        .handle_fs(Rights::READ_FILE)
+        .handle_fs(AccessFs::READ_FILE)
         .create()
         .unwrap()
         .keep();

@@ -69,7 +69,7 @@ const PROGRAMS: [Program; 3] = [
 impl Program {
     fn access(self, tables: &mut Tables, entry: u64, asked: u64) -> u64 {
         match self {
-            Program::Core => skeinrabbit_sys::access(&mut tables.cells(), THREAD, entry, asked),
+            Program::Core => skeinrabbit_sys::access(tables.cells().shared(), THREAD, entry, asked),
             Program::Plain(broker) => broker.access(tables, THREAD, entry, asked),
         }
     }

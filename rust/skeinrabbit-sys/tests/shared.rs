@@ -1,0 +1,54 @@
+//! The calls that change nothing, on tables in memory that cannot be written: a write would end the program.
+use skeinrabbit_sys::{access, layer_rules, port, SharedCells, SIZES};
+
+const fn cells<const N: usize>(first: [u64; 4]) -> [u64; N] {
+    let mut cells = [0; N];
+    let mut cell = 0;
+    while cell < 4 {
+        cells[cell] = first[cell];
+        cell += 1;
+    }
+    cells
+}
+
+static SYSTEM: [u64; SIZES[0]] = cells([6, 1, 0, 0]);
+static ENTRIES: [u64; SIZES[1]] = cells([2, 0, 0, 0]);
+static RULESETS: [u64; SIZES[2]] = cells([0; 4]);
+static LAYERS: [u64; SIZES[3]] = cells([0; 4]);
+static POOL: [u64; SIZES[4]] = cells([0; 4]);
+static THREADS: [u64; SIZES[5]] = cells([1, 0, 0, 0]);
+
+/// The cells of fresh tables at level 6.
+const FRESH: SharedCells = SharedCells {
+    system: &SYSTEM,
+    entries: &ENTRIES,
+    rulesets: &RULESETS,
+    layers: &LAYERS,
+    pool: &POOL,
+    threads: &THREADS,
+};
+
+const ESRCH: u64 = 3u64.wrapping_neg();
+const EIO: u64 = 5u64.wrapping_neg();
+const EBADF: u64 = 9u64.wrapping_neg();
+
+#[test]
+fn requests_write_no_cell() {
+    assert_eq!(access(FRESH, 0, 0, 8), 0);
+    assert_eq!(access(FRESH, 1, 0, 8), ESRCH);
+    assert_eq!(port(FRESH, 0, 80, 1), 0);
+    let mut part = [7, 7, 7];
+    assert_eq!(layer_rules(FRESH, 0, &mut part), EBADF);
+    assert_eq!(part, [0, 0, 7]);
+}
+
+#[test]
+fn tables_of_any_length_are_read() {
+    let short = SharedCells {
+        entries: &[],
+        ..FRESH
+    };
+    assert_eq!(access(short, 0, 0, 8), EIO);
+    assert_eq!(port(short, 0, 80, 1), EIO);
+    assert_eq!(layer_rules(short, 0, &mut []), EIO);
+}
