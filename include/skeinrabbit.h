@@ -9,9 +9,9 @@
  * skeinrabbit_fresh answers -EIO if the tables are not sound. A number out of range counts as not live or not open.
  *
  * Any cells and any numbers are answered. A call is defined if
- * - every pointer is valid for what it points to (a whole struct skein_tables, `size` bytes), aligned for its type and not NULL;
- *   only an attribute may be NULL, and then counts as no bytes, whatever its size;
- * - nothing overlaps: not the attribute with the tables, nor what skeinrabbit_layer_rules writes;
+ * - every pointer is valid for what it points to (a whole struct skein_tables, `size` bytes), aligned for its type and not NULL.
+ *   Only an attribute may be NULL, and counts as no bytes then, whatever its size;
+ * - none of these overlap: the tables, the attribute, and the two places where skeinrabbit_layer_rules reports;
  * - 96 KiB of stack are left (docs/PERFORMANCE.md), which a thread or coroutine with a small stack may not have;
  * - no other call on the same tables runs meanwhile, from a thread or from a signal handler. Calls on other tables may;
  * - the program is for x86-64 Linux, as the archive is.

@@ -84,6 +84,7 @@ int main(void)
 {
 	struct skein_tables *const t = &tables;
 
+	expect("bytes of the tables", (int64_t)sizeof(*t), 77600);
 	expect("access, tables of zeros", skeinrabbit_access(t, 0, SKEIN_ROOT, SKEIN_FS_READ_FILE), -SKEIN_EIO);
 	expect("create_ruleset, tables of zeros", skeinrabbit_create_ruleset(t, NULL, 24, 0), -SKEIN_EIO);
 	expect("fresh, level 7", skeinrabbit_fresh(t, SKEIN_MAX_LEVEL + 1), -SKEIN_EINVAL);
