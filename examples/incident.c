@@ -1,7 +1,7 @@
 /*
  * The incident, replayed. A program may read the calibration tree and do everything in an import folder. It tries to move the
  * calibration table to the import folder, to write it there and to move it back. Each step's answer is printed beside the one that
- * document 01 asks for; the exit status is 0 only if all agree.
+ * document 01 asks for; the exit status is 0 only if all agree. What two such programs can do together: examples/together.skein.
  */
 #include <stdio.h>
 

@@ -8,7 +8,22 @@
  * number. Each comment below lists a call's refusals in the order in which they are tested. Before all of them, every call but
  * skeinrabbit_fresh answers -EIO if the tables are not sound. A number out of range counts as not live or not open.
  *
- * Calls on the same tables must not overlap in time.
+ * Any cells and any numbers are answered. A call is defined if
+ * - every pointer is valid for what it points to (a whole struct skein_tables, `size` bytes), aligned for its type and not NULL.
+ *   Only an attribute may be NULL, and counts as no bytes then, whatever its size;
+ * - none of these overlap: the tables, the attribute, and the two places where skeinrabbit_layer_rules reports;
+ * - 96 KiB of stack are left (docs/PERFORMANCE.md), which a thread or coroutine with a small stack may not have;
+ * - no other call on the same tables runs meanwhile, from a thread or from a signal handler. Calls on other tables may;
+ * - the program is for x86-64 Linux, as the archive is.
+ *
+ * What a broker on top of it must know (docs/BROKER.md):
+ * - The number of a removed entry or a closed ruleset is given out again, lowest first, and after skeinrabbit_fresh every number
+ *   is: a number that is kept too long names something else. Numbers are no secrets: whoever may name any thread may do what any
+ *   thread may.
+ * - The tables are shared and small: 1,024 entries, 16 rulesets, 64 layers, 1,024 rules of layers, 8 threads. A plug-in that may
+ *   create, or reach skeinrabbit_clone, can fill them for all.
+ * - That a sandbox cannot widen itself is said of one domain and those grown from it (docs/THEOREMS.md). Two plug-ins, each with
+ *   a safe policy of its own, may do together what neither may do alone: examples/together.skein.
  */
 #ifndef SKEINRABBIT_H
 #define SKEINRABBIT_H
@@ -136,6 +151,9 @@ struct skein_ruleset_attr {
 /*
  * The functions of the archive: each table as pointer and number of cells, then the arguments. The result is the success number,
  * or 2^64 minus the error number. Prefer the inline functions further down.
+ *
+ * Each pointer must be aligned (cells to 8 bytes) and valid for its length, and not NULL even if the length is 0. The tables, the
+ * attribute and the report `part` of skein_layer_rules must not overlap.
  */
 #define SKEIN_TABLE_PARAMETERS \
 	uint64_t *system_cells, size_t system_length, uint64_t *entries, size_t entries_length, uint64_t *rulesets, \
@@ -186,16 +204,17 @@ static inline int64_t skeinrabbit_fresh(struct skein_tables *t, uint64_t level)
 }
 
 /*
- * Opens a ruleset; answers its number. `attr` points to `size` bytes, usually of a struct skein_ruleset_attr.
+ * Opens a ruleset; answers its number. `attr` points to `size` bytes, usually of a struct skein_ruleset_attr; NULL is no bytes.
  * EOPNOTSUPP level 0; EINVAL flags not 0; EINVAL fewer than 8 bytes; E2BIG more than 4,096; E2BIG a byte that is not zero past
  * the size known to the level; EINVAL a bit unknown to the level; ENOMSG all masks zero; EMFILE no free ruleset.
  */
 static inline int64_t skeinrabbit_create_ruleset(struct skein_tables *t, const void *attr, size_t size, uint64_t flags)
 {
 	const uint8_t no_bytes = 0;
-	const uint8_t *const bytes = size == 0 ? &no_bytes : (const uint8_t *)attr;
+	const uint8_t *const bytes = attr == NULL || size == 0 ? &no_bytes : (const uint8_t *)attr;
+	const size_t length = attr == NULL ? 0 : size;
 
-	return skeinrabbit_answer(skein_create_ruleset(SKEIN_TABLE_ARGUMENTS(t), bytes, size, flags));
+	return skeinrabbit_answer(skein_create_ruleset(SKEIN_TABLE_ARGUMENTS(t), bytes, length, flags));
 }
 
 /*

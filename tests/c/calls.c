@@ -25,6 +25,8 @@ static void ruleset_calls(struct skein_tables *t)
 	const uint8_t zeros[SKEIN_MAX_ATTR_SIZE + 1] = { 0 };
 
 	expect("create_ruleset, no bytes", skeinrabbit_create_ruleset(t, NULL, 0, 0), -SKEIN_EINVAL);
+	expect("create_ruleset, NULL with a size", skeinrabbit_create_ruleset(t, NULL, sizeof(attr), 0), -SKEIN_EINVAL);
+	expect("create_ruleset, NULL with any size", skeinrabbit_create_ruleset(t, NULL, SIZE_MAX, 0), -SKEIN_EINVAL);
 	expect("create_ruleset, 4,097 bytes", skeinrabbit_create_ruleset(t, zeros, sizeof(zeros), 0), -SKEIN_E2BIG);
 	expect("create_ruleset, zeros", skeinrabbit_create_ruleset(t, zeros, sizeof(attr), 0), -SKEIN_ENOMSG);
 	expect("create_ruleset", skeinrabbit_create_ruleset(t, &attr, sizeof(attr), 0), 0);
@@ -82,8 +84,12 @@ int main(void)
 {
 	struct skein_tables *const t = &tables;
 
+	expect("bytes of the tables", (int64_t)sizeof(*t), 77600);
 	expect("access, tables of zeros", skeinrabbit_access(t, 0, SKEIN_ROOT, SKEIN_FS_READ_FILE), -SKEIN_EIO);
+	expect("create_ruleset, tables of zeros", skeinrabbit_create_ruleset(t, NULL, 24, 0), -SKEIN_EIO);
 	expect("fresh, level 7", skeinrabbit_fresh(t, SKEIN_MAX_LEVEL + 1), -SKEIN_EINVAL);
+	expect("fresh, level 0", skeinrabbit_fresh(t, 0), 0);
+	expect("create_ruleset, level 0", skeinrabbit_create_ruleset(t, NULL, 24, 0), -SKEIN_EOPNOTSUPP);
 	expect("fresh", skeinrabbit_fresh(t, SKEIN_MAX_LEVEL), 0);
 	expect("create", skeinrabbit_create(t, 0, SKEIN_ROOT, SKEIN_KIND_DIRECTORY), 1);
 	expect("create", skeinrabbit_create(t, 0, 1, SKEIN_KIND_REGULAR), 2);

@@ -1,0 +1,31 @@
+/* What the fragments of C in the documentation take as given. */
+#define _POSIX_C_SOURCE 200809L
+
+#include <errno.h>
+#include <fcntl.h>
+#include <stdio.h>
+#include <string.h>
+#include <sys/stat.h>
+
+#include "skeinrabbit.h"
+
+#define NONE UINT64_MAX
+#define NAME_SIZE 64
+
+struct connection {
+	int socket;
+	uint64_t thread;
+};
+
+extern struct skein_tables tables, before;
+extern char names[SKEIN_MAX_ENTRIES][NAME_SIZE];
+extern struct connection *connection, *connections;
+extern size_t plugin_count;
+extern const uint64_t *policies;
+extern uint64_t common, directory, entry, kind, source, replaces, replaced;
+extern int source_fd, directory_fd;
+extern const char *source_name, *name;
+extern struct stat status;
+
+uint64_t entry_of_file(const struct stat *status_of_file);
+void fragment(void);
