@@ -152,32 +152,33 @@ struct skein_ruleset_attr {
  * The functions of the archive: each table as pointer and number of cells, then the arguments. The result is the success number,
  * or 2^64 minus the error number. Prefer the inline functions further down.
  *
+ * The calls that only ask take tables that are const.
  * Each pointer must be aligned (cells to 8 bytes) and valid for its length, and not NULL even if the length is 0. The tables, the
  * attribute and the report `part` of skein_layer_rules must not overlap.
  */
-#define SKEIN_TABLE_PARAMETERS \
-	uint64_t *system_cells, size_t system_length, uint64_t *entries, size_t entries_length, uint64_t *rulesets, \
-		size_t rulesets_length, uint64_t *layers, size_t layers_length, uint64_t *pool, size_t pool_length, \
-		uint64_t *threads, size_t threads_length
+#define SKEIN_TABLE_PARAMETERS(cell) \
+	cell *system_cells, size_t system_length, cell *entries, size_t entries_length, cell *rulesets, \
+		size_t rulesets_length, cell *layers, size_t layers_length, cell *pool, size_t pool_length, cell *threads, \
+		size_t threads_length
 
-extern uint64_t skein_fresh(SKEIN_TABLE_PARAMETERS, uint64_t level);
-extern uint64_t skein_create_ruleset(SKEIN_TABLE_PARAMETERS, const uint8_t *attr, size_t size, uint64_t flags);
-extern uint64_t skein_close_ruleset(SKEIN_TABLE_PARAMETERS, uint64_t ruleset);
-extern uint64_t skein_add_path_rule(SKEIN_TABLE_PARAMETERS, uint64_t ruleset, uint64_t entry, uint64_t rights, uint64_t flags);
-extern uint64_t skein_add_port_rule(SKEIN_TABLE_PARAMETERS, uint64_t ruleset, uint64_t port, uint64_t rights, uint64_t flags);
-extern uint64_t skein_restrict(SKEIN_TABLE_PARAMETERS, uint64_t thread, uint64_t ruleset, uint64_t flags);
-extern uint64_t skein_layer_rules(SKEIN_TABLE_PARAMETERS, uint64_t layer, uint64_t *part, size_t part_length);
-extern uint64_t skein_clone(SKEIN_TABLE_PARAMETERS, uint64_t thread);
-extern uint64_t skein_set_no_new_privs(SKEIN_TABLE_PARAMETERS, uint64_t thread);
-extern uint64_t skein_set_admin(SKEIN_TABLE_PARAMETERS, uint64_t thread, uint64_t on);
-extern uint64_t skein_access(SKEIN_TABLE_PARAMETERS, uint64_t thread, uint64_t entry, uint64_t rights);
-extern uint64_t skein_port(SKEIN_TABLE_PARAMETERS, uint64_t thread, uint64_t port, uint64_t rights);
-extern uint64_t skein_create(SKEIN_TABLE_PARAMETERS, uint64_t thread, uint64_t directory, uint64_t kind);
-extern uint64_t skein_remove(SKEIN_TABLE_PARAMETERS, uint64_t thread, uint64_t entry);
-extern uint64_t skein_link(SKEIN_TABLE_PARAMETERS, uint64_t thread, uint64_t source, uint64_t directory);
-extern uint64_t skein_rename(SKEIN_TABLE_PARAMETERS, uint64_t thread, uint64_t source, uint64_t directory, uint64_t replaces,
+extern uint64_t skein_fresh(SKEIN_TABLE_PARAMETERS(uint64_t), uint64_t level);
+extern uint64_t skein_create_ruleset(SKEIN_TABLE_PARAMETERS(uint64_t), const uint8_t *attr, size_t size, uint64_t flags);
+extern uint64_t skein_close_ruleset(SKEIN_TABLE_PARAMETERS(uint64_t), uint64_t ruleset);
+extern uint64_t skein_add_path_rule(SKEIN_TABLE_PARAMETERS(uint64_t), uint64_t ruleset, uint64_t entry, uint64_t rights, uint64_t flags);
+extern uint64_t skein_add_port_rule(SKEIN_TABLE_PARAMETERS(uint64_t), uint64_t ruleset, uint64_t port, uint64_t rights, uint64_t flags);
+extern uint64_t skein_restrict(SKEIN_TABLE_PARAMETERS(uint64_t), uint64_t thread, uint64_t ruleset, uint64_t flags);
+extern uint64_t skein_layer_rules(SKEIN_TABLE_PARAMETERS(const uint64_t), uint64_t layer, uint64_t *part, size_t part_length);
+extern uint64_t skein_clone(SKEIN_TABLE_PARAMETERS(uint64_t), uint64_t thread);
+extern uint64_t skein_set_no_new_privs(SKEIN_TABLE_PARAMETERS(uint64_t), uint64_t thread);
+extern uint64_t skein_set_admin(SKEIN_TABLE_PARAMETERS(uint64_t), uint64_t thread, uint64_t on);
+extern uint64_t skein_access(SKEIN_TABLE_PARAMETERS(const uint64_t), uint64_t thread, uint64_t entry, uint64_t rights);
+extern uint64_t skein_port(SKEIN_TABLE_PARAMETERS(const uint64_t), uint64_t thread, uint64_t port, uint64_t rights);
+extern uint64_t skein_create(SKEIN_TABLE_PARAMETERS(uint64_t), uint64_t thread, uint64_t directory, uint64_t kind);
+extern uint64_t skein_remove(SKEIN_TABLE_PARAMETERS(uint64_t), uint64_t thread, uint64_t entry);
+extern uint64_t skein_link(SKEIN_TABLE_PARAMETERS(uint64_t), uint64_t thread, uint64_t source, uint64_t directory);
+extern uint64_t skein_rename(SKEIN_TABLE_PARAMETERS(uint64_t), uint64_t thread, uint64_t source, uint64_t directory, uint64_t replaces,
 			     uint64_t entry);
-extern uint64_t skein_exchange(SKEIN_TABLE_PARAMETERS, uint64_t thread, uint64_t source, uint64_t directory, uint64_t entry);
+extern uint64_t skein_exchange(SKEIN_TABLE_PARAMETERS(uint64_t), uint64_t thread, uint64_t source, uint64_t directory, uint64_t entry);
 
 /* The tables of a struct as the arguments of an archive's function. */
 #define SKEIN_TABLE_ARGUMENTS(t) \
@@ -263,7 +264,7 @@ static inline int64_t skeinrabbit_restrict(struct skein_tables *t, uint64_t thre
  * a refusal the part is empty.
  * EBADF layer not in use.
  */
-static inline int64_t skeinrabbit_layer_rules(struct skein_tables *t, uint64_t layer, const uint64_t **rules, size_t *cells)
+static inline int64_t skeinrabbit_layer_rules(const struct skein_tables *t, uint64_t layer, const uint64_t **rules, size_t *cells)
 {
 	uint64_t part[2] = { 0, 0 };
 	const uint64_t result = skein_layer_rules(SKEIN_TABLE_ARGUMENTS(t), layer, part, 2);
@@ -305,7 +306,7 @@ static inline int64_t skeinrabbit_set_admin(struct skein_tables *t, uint64_t thr
  * ESRCH thread not live; ENOENT entry not live; EINVAL rights empty, a bit above 15, or a bit outside the file set for an entry
  * that is no directory; EACCES a right not granted.
  */
-static inline int64_t skeinrabbit_access(struct skein_tables *t, uint64_t thread, uint64_t entry, uint64_t rights)
+static inline int64_t skeinrabbit_access(const struct skein_tables *t, uint64_t thread, uint64_t entry, uint64_t rights)
 {
 	return skeinrabbit_answer(skein_access(SKEIN_TABLE_ARGUMENTS(t), thread, entry, rights));
 }
@@ -314,7 +315,7 @@ static inline int64_t skeinrabbit_access(struct skein_tables *t, uint64_t thread
  * Asks whether a thread may use a TCP port with all of the rights.
  * ESRCH thread not live; EINVAL port above 65,535; EINVAL rights empty or a bit above 1; EACCES a right not granted.
  */
-static inline int64_t skeinrabbit_port(struct skein_tables *t, uint64_t thread, uint64_t port, uint64_t rights)
+static inline int64_t skeinrabbit_port(const struct skein_tables *t, uint64_t thread, uint64_t port, uint64_t rights)
 {
 	return skeinrabbit_answer(skein_port(SKEIN_TABLE_ARGUMENTS(t), thread, port, rights));
 }
