@@ -52,6 +52,11 @@ pub fn skein_with(words: &[&str], input: &[u8]) -> Ran {
     ran(output)
 }
 
+/// Messages without the breaks in their lines.
+pub fn unbroken(messages: &str) -> String {
+    messages.replace("\n    ", " ")
+}
+
 /// The path of an example.
 pub fn example(name: &str) -> String {
     let path = PathBuf::from(env!("CARGO_MANIFEST_DIR"))
