@@ -11,7 +11,7 @@ pub struct Ran {
     pub err: String,
 }
 
-fn ran(output: Output) -> Ran {
+pub fn ran(output: Output) -> Ran {
     Ran {
         code: output.status.code().expect("not ended by a signal"),
         out: String::from_utf8(output.stdout).expect("output is UTF-8"),
