@@ -220,7 +220,7 @@ fn mutated_scenarios_are_read_or_refused_and_played() {
     let (scenarios, odd) = (scenarios(), odd_words());
     let mut noise = Noise(3);
     let mut tried = Tried::default();
-    for _ in 0..400 {
+    for _ in 0..1000 {
         let lines: Vec<&[u8]> = noise
             .pick(&scenarios)
             .split(|byte| *byte == b'\n')

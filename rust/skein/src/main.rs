@@ -17,6 +17,7 @@ mod fuzz;
 mod help;
 mod json;
 mod lines;
+mod messages;
 mod paint;
 mod picture;
 mod play;
@@ -26,14 +27,14 @@ mod words;
 
 use args::{Command, Options};
 use demo::Demo;
+use messages::{bad_lines, differing_lines, not_drawn};
 use paint::Paint;
 use picture::Explained;
 use play::{play, Play};
-use scenario::BadLine;
 use std::ffi::OsStr;
 use std::io::{ErrorKind, Read, Write};
 use std::process::ExitCode;
-use words::{escaped, quoted};
+use words::escaped;
 
 /// An answer differs from what its line expects.
 const DIFFERS: u8 = 1;
@@ -143,46 +144,6 @@ fn read(file: &OsStr) -> std::io::Result<Vec<u8>> {
     Ok(bytes)
 }
 
-/// Messages about lines of a file, the first ones where there are many.
-fn messages<L>(
-    name: &str,
-    lines: impl ExactSizeIterator<Item = L>,
-    kind: &str,
-    message: impl Fn(L) -> (usize, String),
-) -> String {
-    const MOST: usize = 20;
-    let name = escaped(name);
-    let more = lines.len().saturating_sub(MOST);
-    let mut messages = String::new();
-    for (line, message) in lines.take(MOST).map(message) {
-        messages.push_str(&format!("{name}:{line}: {message}\n"));
-    }
-    if more > 0 {
-        let more = transcript::counted(more, &format!("more {kind}"));
-        messages.push_str(&format!("{name}: {more}\n"));
-    }
-    messages
-}
-
-fn bad_lines(name: &str, lines: &[BadLine]) -> String {
-    messages(name, lines.iter(), "bad line", |BadLine { line, bad }| {
-        let message = format!("found {}; expected {}", bad.found, bad.expected);
-        (*line, message)
-    })
-}
-
-/// The lines whose answer differs, with what they expect.
-fn differing_lines(name: &str, play: &Play) -> String {
-    let lines: Vec<_> = play.differing().collect();
-    messages(name, lines.into_iter(), "differing line", |played| {
-        let call = quoted(&played.statement.text);
-        let answer = transcript::reason(played).unwrap_or_else(|| played.answer.to_string());
-        let verdict = transcript::verdict(played);
-        let message = format!("{call} {verdict}, but answered {answer}");
-        (played.statement.line, message)
-    })
-}
-
 /// How output is to look.
 struct View {
     json: bool,
@@ -216,7 +177,7 @@ impl View {
         let mut messages = differing_lines(name, &play);
         messages.push_str(&bad_lines(name, play.stopped.as_slice()));
         if code(&play) == DIFFERS {
-            messages.push_str(&format!("skein: {}: {NOT_DRAWN}\n", escaped(name)));
+            messages.push_str(&not_drawn(name));
         }
         Outcome {
             output,
@@ -249,10 +210,6 @@ impl View {
         }
     }
 }
-
-/// What `explain` says where an answer differs.
-const NOT_DRAWN: &str = "nothing is drawn, as not every call answered as its line says; \
-                         `=> any` lets a call answer anything";
 
 fn code(play: &Play) -> u8 {
     match &play.stopped {

@@ -20,6 +20,8 @@ pub fn shown(text: &str, widest: usize) -> String {
         let from = shown.len();
         match c {
             '"' | '\'' => shown.push(c),
+            // Letters that join the one before are printable too.
+            c if c.is_alphanumeric() => shown.push(c),
             c => shown.extend(c.escape_debug()),
         }
         wide += shown.get(from..).map_or(0, |part| part.chars().count());
@@ -101,6 +103,10 @@ mod tests {
             "a\\u{1b}[2J\\n\\r\\t\\0\\u{202e}é\"'"
         );
         assert_eq!(quoted("a\\b"), "`a\\\\b`");
+        assert_eq!(
+            escaped("\u{915}\u{941} e\u{301}"),
+            "\u{915}\u{941} e\\u{301}"
+        );
     }
 
     #[test]
