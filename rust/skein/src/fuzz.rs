@@ -109,7 +109,7 @@ fn scenarios() -> Vec<Vec<u8>> {
 
 /// Words that no scenario has, and some that many have, in bytes that need not be text.
 fn odd_words() -> Vec<Vec<u8>> {
-    let words: [&[u8]; 38] = [
+    let words: [&[u8]; 39] = [
         b"\0",
         b"\r",
         b"\r\n",
@@ -143,11 +143,12 @@ fn odd_words() -> Vec<Vec<u8>> {
         b"size=",
         b"fs=0xffffffffffffffff",
         b"flags=1",
-        b"poke system 0 0",
-        b"poke threads 0 0xffffffffffffffff 32 1 0",
-        b"poke entries 0 1 1024 3 0",
-        b"fresh 3",
-        b"create_ruleset net=3 scope=3",
+        b"\npoke system 0 0\n",
+        b"\npoke threads 0 0xffffffffffffffff 32 1 0\n",
+        b"\npoke entries 0 1 1024 3 0\n",
+        b"\nfresh 3\n",
+        b"\ncreate_ruleset net=3 scope=3\n",
+        b"\ncreate_ruleset fs=4 size=18446744073709551615\n",
     ];
     let long = [
         "x".repeat(65_536),
@@ -176,7 +177,7 @@ fn words(text: &[u8]) -> Vec<Range<usize>> {
     words
 }
 
-/// Changes a text in one place.
+/// Changes a text in one place, or one word of it everywhere.
 fn mutate(text: &mut Vec<u8>, odd: &[Vec<u8>], noise: &mut Noise) {
     let places = words(text);
     if places.is_empty() {
@@ -184,18 +185,28 @@ fn mutate(text: &mut Vec<u8>, odd: &[Vec<u8>], noise: &mut Noise) {
         return;
     }
     let word = noise.pick(&places).clone();
-    match noise.below(6) {
+    let end = word.end..word.end;
+    match noise.below(8) {
         0 => text[word.start] = noise.below(256) as u8,
-        1 => drop(text.splice(word.end..word.end, noise.pick(odd).clone())),
-        2 => drop(text.splice(word, noise.pick(odd).clone())),
-        3 => drop(text.drain(noise.part(text.len(), 40))),
-        4 => {
+        1 => drop(text.splice(end, noise.pick(odd).clone())),
+        2 => drop(text.splice(end, [b" ", noise.pick(odd).as_slice()].concat())),
+        3 => drop(text.splice(word, noise.pick(odd).clone())),
+        4 => drop(text.drain(noise.part(text.len(), 40))),
+        5 => {
             let again = text[noise.part(text.len(), 200)].to_vec();
-            drop(text.splice(word.start..word.start, again));
+            drop(text.splice(end, again));
         }
-        _ => {
+        6 => {
             let other = text[noise.pick(&places).clone()].to_vec();
             drop(text.splice(word, other));
+        }
+        _ => {
+            let (old, new) = (text[word].to_vec(), noise.pick(odd));
+            for place in places.into_iter().rev() {
+                if text[place.clone()] == old {
+                    text.splice(place, new.iter().copied());
+                }
+            }
         }
     }
 }
