@@ -85,6 +85,8 @@ const WIDEST_ANSWER: usize = 24;
 /// The columns.
 pub struct Layout {
     width: usize,
+    /// The widest word that fits in a line that goes on.
+    room: usize,
     line: usize,
     /// Where the call, its answer and the verdict start.
     text: usize,
@@ -113,6 +115,7 @@ impl Layout {
         let verdict = answer + answers + gap;
         Layout {
             width,
+            room,
             line,
             text,
             answer,
@@ -125,12 +128,11 @@ impl Layout {
         let statement = played.statement;
         let plain = str::to_owned;
         let indent = self.text + INDENT;
-        let room = self.width.saturating_sub(indent);
         let mut row = Row::new(indent, self.width);
         let number = statement.line.to_string();
         row.cell(self.line.saturating_sub(number.len()), &number, plain);
-        row.fill(self.text, &call_text(played, room));
-        row.cell(self.answer, &answer(played, room), plain);
+        row.fill(self.text, &call_text(played, self.room));
+        row.cell(self.answer, &answer(played, self.room), plain);
         if played.differs() {
             let verdict = format!("DIFFERS: {}", verdict(played));
             row.cell(self.verdict, &verdict, |text| paint.differing(text));
