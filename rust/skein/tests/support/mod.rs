@@ -11,7 +11,7 @@ pub struct Ran {
     pub err: String,
 }
 
-fn ran(output: Output) -> Ran {
+pub fn ran(output: Output) -> Ran {
     Ran {
         code: output.status.code().expect("not ended by a signal"),
         out: String::from_utf8(output.stdout).expect("output is UTF-8"),
@@ -50,6 +50,11 @@ pub fn skein_with(words: &[&str], input: &[u8]) -> Ran {
         .expect("the writer ends")
         .expect("all input is read");
     ran(output)
+}
+
+/// Messages without the breaks in their lines.
+pub fn unbroken(messages: &str) -> String {
+    messages.replace("\n    ", " ")
 }
 
 /// The path of an example.
