@@ -65,11 +65,12 @@ pub fn example(name: &str) -> String {
     path.to_str().expect("a UTF-8 path").to_owned()
 }
 
-pub const EXAMPLES: [&str; 4] = [
+pub const EXAMPLES: [&str; 5] = [
     "tutorial.skein",
     "incident.skein",
     "worked.skein",
     "refusals.skein",
+    "together.skein",
 ];
 
 /// A file of its own for a test, removed afterwards.
