@@ -1,6 +1,10 @@
 //! The command line.
+use crate::words::{one_of, quoted};
 use std::ffi::{OsStr, OsString};
 use std::io::IsTerminal;
+
+const COMMANDS: [&str; 3] = ["run", "explain", "demo"];
+const OPTIONS: [&str; 5] = ["--json", "--all-rights", "--color", "--help", "--version"];
 
 /// What to do.
 #[derive(Debug, PartialEq, Eq)]
@@ -27,7 +31,10 @@ impl Color {
             "always" => Ok(Color::Always),
             "never" => Ok(Color::Never),
             "auto" => Ok(Color::Auto),
-            _ => Err(format!("--color is always, never or auto, not `{word}`")),
+            _ => Err(format!(
+                "--color is always, never or auto, not {}",
+                quoted(word)
+            )),
         }
     }
 
@@ -94,7 +101,7 @@ impl Words {
             // A single dash is standard input.
             _ if text.starts_with('-') && text != "-" => match text.strip_prefix("--color=") {
                 Some(when) => self.color = Some(Color::parse(when)?),
-                None => return Err(format!("there is no option `{text}`")),
+                None => return Err(unknown("option", text, &OPTIONS)),
             },
             _ => self.plain.push(word),
         }
@@ -120,7 +127,7 @@ impl Words {
 
 fn command(plain: &[OsString]) -> Result<Command, String> {
     let Some((name, rest)) = plain.split_first() else {
-        return Err("a command is missing: run, explain or demo".to_owned());
+        return Err(format!("a command is missing: {}", COMMANDS.join(", ")));
     };
     let file = |make: fn(OsString) -> Command| match rest {
         [file] => Ok(make(file.clone())),
@@ -132,15 +139,18 @@ fn command(plain: &[OsString]) -> Result<Command, String> {
         (Some("explain"), _) => file(Command::Explain),
         (Some("demo"), []) => Ok(Command::Demo),
         (Some("demo"), [more, ..]) => Err(too_many(more)),
-        _ => Err(format!(
-            "there is no command `{}`: the commands are run, explain and demo",
-            name.to_string_lossy()
-        )),
+        _ => Err(unknown("command", &name.to_string_lossy(), &COMMANDS)),
     }
 }
 
 fn too_many(word: &OsStr) -> String {
-    format!("`{}` is one word too many", word.to_string_lossy())
+    format!("{} is one word too many", quoted(&word.to_string_lossy()))
+}
+
+/// A word that is none of those of its kind.
+fn unknown(kind: &str, word: &str, known: &[&str]) -> String {
+    let known = one_of("expected one", word, known);
+    format!("there is no {kind} {}; {known}", quoted(word))
 }
 
 #[cfg(test)]

@@ -1,7 +1,8 @@
 //! Document 01's worked tree and cases.
 use crate::json::Json;
+use crate::lines::broken;
 use crate::paint::Paint;
-use crate::picture::{self, Picture};
+use crate::picture::{self, Explained};
 use crate::play::{play, Play, Played};
 use crate::scenario::{parse, Answer, BadLine, Call, RulesetCall, Scenario, ThreadCall, TreeCall};
 use crate::transcript::{self, Layout};
@@ -9,10 +10,22 @@ use crate::transcript::{self, Layout};
 const TREE: &str = include_str!("demo.skein");
 const CASES: &str = include_str!("../../../examples/worked.skein");
 
+/// The name of the cases in output.
+const CASES_FILE: &str = "examples/worked.skein";
+/// The name of the tree in output.
+pub const TREE_FILE: &str = "demo.skein";
+
 /// The tree and the cases, as they are read.
 pub struct Demo {
     tree: Scenario,
     cases: Scenario,
+}
+
+/// The tree and the cases, played.
+pub struct Shown<'d> {
+    pub tree: Play<'d>,
+    explained: Explained,
+    pub cases: Play<'d>,
 }
 
 impl Demo {
@@ -23,55 +36,54 @@ impl Demo {
         })
     }
 
-    pub fn cases(&self) -> Play<'_> {
-        play(&self.cases)
-    }
-
-    pub fn text(&self, cases: &Play, all_rights: bool, paint: Paint) -> String {
+    pub fn play(&self, all_rights: bool) -> Shown<'_> {
         let mut tree = play(&self.tree);
+        let explained = Explained::of(&mut tree, all_rights);
+        let cases = play(&self.cases);
+        Shown {
+            tree,
+            explained,
+            cases,
+        }
+    }
+}
+
+impl Shown<'_> {
+    pub fn text(&self, width: usize, paint: Paint) -> String {
         let mut out = paint
             .heading("Document 01's worked tree: a thread under each of the layers A, B and C");
         out.push_str("\n\n");
-        if let Some(picture) = Picture::ask(&mut tree.player, all_rights) {
-            out.push_str(&picture::text(&picture, paint));
-        }
+        out.push_str(&picture::text(&self.explained, width, paint));
         out.push_str(&format!(
             "\n{}\n",
             paint.heading("The worked cases, each starting anew")
         ));
-        out.push_str(&cases_text(cases, paint));
-        out.push_str(&format!(
-            "\nexamples/worked.skein: {}",
-            transcript::summary(cases)
-        ));
+        out.push_str(&cases_text(&self.cases, width, paint));
+        let summary = transcript::summary(&self.cases);
+        out.push_str(&format!("\n{CASES_FILE}: {summary}\n"));
         out
     }
 
-    pub fn json(&self, cases: &Play, all_rights: bool) -> Json {
-        let mut tree = play(&self.tree);
-        let picture = Picture::ask(&mut tree.player, all_rights);
-        let level = tree.player.tables.level();
+    pub fn json(&self) -> Json {
+        let explain = picture::json(TREE_FILE, &self.tree, &self.explained);
         Json::Object(vec![
             ("command", Json::text("demo")),
-            (
-                "explain",
-                picture::json("demo.skein", level, picture.as_ref()),
-            ),
-            ("run", transcript::json("examples/worked.skein", cases)),
+            ("explain", explain),
+            ("run", transcript::json(CASES_FILE, &self.cases)),
         ])
     }
 }
 
 /// The cases with their headings, without the calls that only prepare them.
-fn cases_text(cases: &Play, paint: Paint) -> String {
-    let layout = Layout::of(&cases.played);
+fn cases_text(cases: &Play, width: usize, paint: Paint) -> String {
+    let layout = Layout::of(&cases.played, width);
     let mut out = String::new();
     for (place, played) in cases.played.iter().enumerate() {
         if matches!(played.statement.call, Call::Fresh { .. }) {
-            for line in &played.statement.heading {
-                out.push_str(&format!("\n{line}"));
-            }
             out.push('\n');
+            for line in &played.statement.heading {
+                out.push_str(&broken(line, 0, width));
+            }
         }
         let next = cases.played.get(place + 1);
         let last = next.is_none_or(|next| matches!(next.statement.call, Call::Fresh { .. }));

@@ -11,56 +11,83 @@ usage: skein run [--json] [--color WHEN] FILE
 
 /// What stands below the usage in `--help`.
 pub const HELP: &str = "
-Skein plays scenarios on Skeinrabbit, a file broker that answers as Linux's Landlock would. A scenario
-is a text file with one call to a line: it builds a file tree, sandboxes threads, and asks what they
-may do. FILE may be - for standard input.
+Skein plays scenarios on Skeinrabbit, a file broker that answers as Linux's
+Landlock would. A scenario is a text file with one call to a line: it builds a
+file tree, sandboxes threads, and asks what they may do. FILE may be - for
+standard input.
 
 Commands
-  run      plays FILE and prints each call with its answer: 0, the number of what was made (new 5), or
-           the error (EACCES). An answer other than the line expects (=> ANSWER) is marked.
-  explain  plays FILE without printing it, then draws the tree it leaves, with what each thread may do
-           at each entry and port, asked of the broker right by right.
-  demo     shows document 01's worked tree as explain does, and plays its worked cases.
+  run      plays FILE and prints each call with its answer: 0, the number of
+           what was made (new 5), or the error (EACCES). An answer that the
+           line does not allow is marked DIFFERS.
+  explain  plays FILE without printing it, then draws the tree it leaves, with
+           what each thread may do at each entry and port, asked of the broker
+           right by right. If an answer differs, it says which and draws
+           nothing.
+  demo     shows document 01's worked tree as explain does, and plays its
+           worked cases.
 
 Options
-  --json        one JSON document instead of text; docs/SCENARIO.md lists its fields
-  --all-rights  a column for each of the 16 rights, not only for those that some layer handles
-  --color WHEN  always, never or auto: where output is a terminal and NO_COLOR is not set (default)
+  --json        one JSON document instead of text; docs/SCENARIO.md lists its
+                fields
+  --all-rights  a column for each of the 16 rights, not only for those that
+                some layer handles
+  --color WHEN  always, never or auto: where output is a terminal and NO_COLOR
+                is not set (default)
   -h, --help    this text
   -V, --version the version
 
 Format (in full: docs/SCENARIO.md)
-  CALL ARGUMENT .. [-> NAME] [=> ANSWER]        # a comment runs to the end of the line
+  CALL ARGUMENT .. [-> NAME] [=> ANSWER]     # a comment, to the end of the line
 
-  -> NAME binds the number of what the call makes; => ANSWER says what it must answer: a number,
-  new N, an error's name (EACCES) or its negated number (-13). Tables start fresh at level 6. A number
-  is decimal or hexadecimal (0x1f). An entry, ruleset or thread is a number or a bound name; root is
-  entry 0, main is thread 0.
+  -> NAME binds the number of what the call makes.
+  => ANSWER says what the call must answer: a number, new N, an error's name
+  (EACCES) or its negated number (-13); ok for any success, new for any that
+  makes something, any for any answer at all. Without => the call must succeed.
 
-    fresh LEVEL                                 create THREAD DIRECTORY KIND
-    create_ruleset [fs=RIGHTS] [net=RIGHTS]     remove THREAD ENTRY
-      [scope=RIGHTS] [size=N] [flags=N]         link THREAD SOURCE DIRECTORY
-    create_ruleset hex=BYTES [flags=N]          rename THREAD SOURCE DIRECTORY [ENTRY]
-    close_ruleset RULESET                       exchange THREAD SOURCE DIRECTORY ENTRY
-    add_path_rule RULESET ENTRY RIGHTS [FLAGS]  access THREAD ENTRY RIGHTS
-    add_port_rule RULESET PORT RIGHTS [FLAGS]   port THREAD PORT RIGHTS
-    restrict THREAD RULESET [FLAGS]             clone THREAD
-    layer_rules LAYER                           set_no_new_privs THREAD
-    poke TABLE CELL VALUE [COUNT STEP RISE]     set_admin THREAD ON
+  Tables start fresh at level 6. A number is decimal or hexadecimal (0x1f). An
+  entry, ruleset or thread is a number or a bound name; root is entry 0, main
+  is thread 0.
 
-  KIND: regular directory character block fifo socket symlink, or a number. ON: on, off or a number.
-  TABLE: system entries rulesets layers pool threads. COUNT, STEP and RISE make a run of writes: how
-  many, how many cells from one to the next, and how much each value is above the last.
+    fresh LEVEL
+    create_ruleset [fs=RIGHTS] [net=RIGHTS] [scope=RIGHTS] [size=N] [flags=N]
+    create_ruleset hex=BYTES [flags=N]
+    close_ruleset RULESET
+    add_path_rule RULESET ENTRY RIGHTS [FLAGS]
+    add_port_rule RULESET PORT RIGHTS [FLAGS]
+    restrict THREAD RULESET [FLAGS]
+    layer_rules LAYER
+    clone THREAD
+    set_no_new_privs THREAD
+    set_admin THREAD ON
+    access THREAD ENTRY RIGHTS
+    port THREAD PORT RIGHTS
+    create THREAD DIRECTORY KIND
+    remove THREAD ENTRY
+    link THREAD SOURCE DIRECTORY
+    rename THREAD SOURCE DIRECTORY [ENTRY]
+    exchange THREAD SOURCE DIRECTORY ENTRY
+    poke TABLE CELL VALUE [COUNT STEP RISE]
+
+  KIND: regular directory character block fifo socket symlink, or a number.
+  ON: on, off or a number.
+  TABLE: system entries rulesets layers pool threads. COUNT, STEP and RISE make
+  a run of writes: how many, how many cells from one to the next, and how much
+  each value is above the last.
 
 Rights: a number, none, or names joined by + in any letter case
-  files   execute write_file read_file read_dir remove_dir remove_file make_char make_dir make_reg
-          make_sock make_fifo make_block make_sym refer truncate ioctl_dev       (bits 0 to 15)
-  ports   bind_tcp connect_tcp                                                   (bits 0 and 1)
-  scopes  abstract_unix_socket signal                                            (bits 0 and 1)
+  files   execute write_file read_file read_dir remove_dir remove_file
+          make_char make_dir make_reg make_sock make_fifo make_block make_sym
+          refer truncate ioctl_dev                                (bits 0 to 15)
+  ports   bind_tcp connect_tcp                                    (bits 0 and 1)
+  scopes  abstract_unix_socket signal                             (bits 0 and 1)
+
+  A right that the level does not know is bad input in create_ruleset, unless
+  size=N or hex= asks for the raw call.
 
 Exit codes
   0   every answer is as its line expects
-  1   some answer differs from what its line expects
+  1   some answer differs: a refusal on a line without => among them
   2   bad input: FILE:LINE: what was found; what was expected
   3   FILE cannot be read, or the output cannot be written
   64  wrong usage

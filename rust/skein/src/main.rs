@@ -12,23 +12,29 @@
 
 mod args;
 mod demo;
+#[cfg(test)]
+mod fuzz;
 mod help;
 mod json;
+mod lines;
+mod messages;
 mod paint;
 mod picture;
 mod play;
 mod scenario;
 mod transcript;
+mod words;
 
 use args::{Command, Options};
 use demo::Demo;
+use messages::{bad_lines, differing_lines, not_drawn};
 use paint::Paint;
-use picture::Picture;
+use picture::Explained;
 use play::{play, Play};
-use scenario::BadLine;
 use std::ffi::OsStr;
 use std::io::{ErrorKind, Read, Write};
 use std::process::ExitCode;
+use words::escaped;
 
 /// An answer differs from what its line expects.
 const DIFFERS: u8 = 1;
@@ -70,14 +76,23 @@ fn show(outcome: Outcome) -> ExitCode {
             code = UNREADABLE;
         }
     }
-    // Where messages cannot be written there is nowhere left to say so.
-    let _ = std::io::stderr().write_all(messages.as_bytes());
+    let mut stderr = std::io::stderr().lock();
+    let width = lines::width(&stderr);
+    for line in messages.lines() {
+        // Where messages cannot be written there is nowhere left to say so.
+        let _ = stderr.write_all(lines::broken(line, 4, width).as_bytes());
+    }
     ExitCode::from(code)
 }
 
 fn perform(options: &Options) -> Outcome {
-    let paint = Paint {
-        on: options.color.wanted(),
+    let view = View {
+        json: options.json,
+        all_rights: options.all_rights,
+        width: lines::width(&std::io::stdout()),
+        paint: Paint {
+            on: options.color.wanted(),
+        },
     };
     let output = |output: String| Outcome {
         output,
@@ -86,9 +101,9 @@ fn perform(options: &Options) -> Outcome {
     match &options.command {
         Command::Help => output(format!("{}{}", help::USAGE, help::HELP)),
         Command::Version => output(help::VERSION.to_owned()),
-        Command::Run(file) => with_file(file, |name, play| run(options, name, play, paint)),
-        Command::Explain(file) => with_file(file, |name, play| explain(options, name, play, paint)),
-        Command::Demo => demo(options, paint),
+        Command::Run(file) => with_file(file, |name, play| view.run(name, play)),
+        Command::Explain(file) => with_file(file, |name, play| view.explain(name, play)),
+        Command::Demo => view.demo(),
     }
 }
 
@@ -99,15 +114,24 @@ fn with_file(file: &OsStr, show: impl FnOnce(&str, Play) -> Outcome) -> Outcome 
         Ok(bytes) => bytes,
         Err(error) => {
             return Outcome {
-                messages: format!("skein: {name}: {error}\n"),
+                messages: format!("skein: {}: {error}\n", escaped(&name)),
                 code: UNREADABLE,
                 ..Outcome::default()
             }
         }
     };
-    match scenario::parse(&bytes) {
-        Ok(scenario) => show(&name, play(&scenario)),
-        Err(lines) => bad_input(&name, &lines),
+    with_bytes(&name, &bytes, show)
+}
+
+/// Reads and plays the bytes of a file, and gives the play to `show`.
+fn with_bytes(name: &str, bytes: &[u8], show: impl FnOnce(&str, Play) -> Outcome) -> Outcome {
+    match scenario::parse(bytes) {
+        Ok(scenario) => show(name, play(&scenario)),
+        Err(lines) => Outcome {
+            messages: bad_lines(name, &lines),
+            code: BAD_INPUT,
+            ..Outcome::default()
+        },
     }
 }
 
@@ -120,93 +144,77 @@ fn read(file: &OsStr) -> std::io::Result<Vec<u8>> {
     Ok(bytes)
 }
 
-/// The bad lines of a file, the first ones where there are many.
-fn bad_input(name: &str, lines: &[BadLine]) -> Outcome {
-    const MOST: usize = 20;
-    let mut messages = String::new();
-    for BadLine { line, bad } in lines.iter().take(MOST) {
-        let (found, expected) = (&bad.found, &bad.expected);
-        messages.push_str(&format!(
-            "{name}:{line}: found {found}; expected {expected}\n"
-        ));
-    }
-    if lines.len() > MOST {
-        let more = transcript::counted(lines.len() - MOST, "more bad line");
-        messages.push_str(&format!("{name}: {more}\n"));
-    }
-    Outcome {
-        messages,
-        code: BAD_INPUT,
-        ..Outcome::default()
-    }
+/// How output is to look.
+struct View {
+    json: bool,
+    all_rights: bool,
+    width: usize,
+    paint: Paint,
 }
 
-fn run(options: &Options, name: &str, play: Play, paint: Paint) -> Outcome {
-    if let Some(line) = &play.stopped {
-        let outcome = bad_input(name, std::slice::from_ref(line));
-        // What was played shows why the name is not bound.
-        let output = if options.json {
-            String::new()
-        } else {
-            transcript::text(&play, paint)
+impl View {
+    fn run(&self, name: &str, play: Play) -> Outcome {
+        // A document is written whole or not at all, but what was played shows why a line is bad.
+        let output = match (self.json, &play.stopped) {
+            (true, Some(_)) => String::new(),
+            (true, None) => format!("{}\n", transcript::json(name, &play)),
+            (false, _) => transcript::text(&play, self.width, self.paint),
         };
-        return Outcome { output, ..outcome };
+        Outcome {
+            output,
+            messages: bad_lines(name, play.stopped.as_slice()),
+            code: code(&play),
+        }
     }
-    let output = if options.json {
-        format!("{}\n", transcript::json(name, &play))
-    } else {
-        transcript::text(&play, paint)
-    };
-    Outcome {
-        output,
-        code: code(&play),
-        ..Outcome::default()
-    }
-}
 
-fn explain(options: &Options, name: &str, mut play: Play, paint: Paint) -> Outcome {
-    if let Some(line) = &play.stopped {
-        return bad_input(name, std::slice::from_ref(line));
+    fn explain(&self, name: &str, mut play: Play) -> Outcome {
+        let explained = Explained::of(&mut play, self.all_rights);
+        let output = match (self.json, &play.stopped) {
+            (_, Some(_)) => String::new(),
+            (true, None) => format!("{}\n", picture::json(name, &play, &explained)),
+            (false, None) => picture::text(&explained, self.width, self.paint),
+        };
+        let mut messages = differing_lines(name, &play);
+        messages.push_str(&bad_lines(name, play.stopped.as_slice()));
+        if code(&play) == DIFFERS {
+            messages.push_str(&not_drawn(name));
+        }
+        Outcome {
+            output,
+            messages,
+            code: code(&play),
+        }
     }
-    let picture = Picture::ask(&mut play.player, options.all_rights);
-    let level = play.player.tables.level();
-    let output = match &picture {
-        picture if options.json => format!("{}\n", picture::json(name, level, picture.as_ref())),
-        Some(picture) => picture::text(picture, paint),
-        None => "The tables are not sound: every call answers EIO.\n".to_owned(),
-    };
-    let messages = match play.differing() {
-        0 => String::new(),
-        _ => format!("skein: {name}: {}", transcript::summary(&play)),
-    };
-    Outcome {
-        output,
-        messages,
-        code: code(&play),
-    }
-}
 
-fn demo(options: &Options, paint: Paint) -> Outcome {
-    let demo = match Demo::new() {
-        Ok(demo) => demo,
-        Err(lines) => return bad_input("demo", &lines),
-    };
-    let cases = demo.cases();
-    let output = if options.json {
-        format!("{}\n", demo.json(&cases, options.all_rights))
-    } else {
-        demo.text(&cases, options.all_rights, paint)
-    };
-    Outcome {
-        output,
-        code: code(&cases),
-        ..Outcome::default()
+    fn demo(&self) -> Outcome {
+        let demo = match Demo::new() {
+            Ok(demo) => demo,
+            Err(lines) => {
+                return Outcome {
+                    messages: bad_lines(demo::TREE_FILE, &lines),
+                    code: BAD_INPUT,
+                    ..Outcome::default()
+                }
+            }
+        };
+        let shown = demo.play(self.all_rights);
+        let output = if self.json {
+            format!("{}\n", shown.json())
+        } else {
+            shown.text(self.width, self.paint)
+        };
+        Outcome {
+            output,
+            messages: differing_lines(demo::TREE_FILE, &shown.tree),
+            code: code(&shown.tree).max(code(&shown.cases)),
+        }
     }
 }
 
 fn code(play: &Play) -> u8 {
-    match play.differing() {
-        0 => 0,
-        _ => DIFFERS,
+    match &play.stopped {
+        Some(_) => BAD_INPUT,
+        None if play.is_as_expected() => 0,
+        None => DIFFERS,
     }
 }

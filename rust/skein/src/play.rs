@@ -3,7 +3,11 @@ use crate::scenario::{
     Answer, Bad, BadLine, Call, Masks, Move, Names, Operand, RulesetBytes, RulesetCall, Scenario,
     Space, Statement, ThreadCall, TreeCall,
 };
-use skeinrabbit::{Cells, Entry, Errno, Layer, Level, Rule, Ruleset, Table, Tables, Thread};
+use crate::words::quoted;
+use skeinrabbit::{
+    Attribute, Cells, Entry, Errno, Layer, Level, PortRights, Rights, Rule, Ruleset, Scopes, Table,
+    Tables, Thread,
+};
 
 /// Tables and names as the lines so far left them.
 pub struct Player {
@@ -20,10 +24,9 @@ pub struct Played<'s> {
 }
 
 impl Played<'_> {
-    /// Whether the answer is another than the line expects.
+    /// Whether the answer is another than the line expects; a line that says nothing expects a success.
     pub fn differs(&self) -> bool {
-        let expected = self.statement.expected;
-        expected.is_some_and(|expected| !expected.is_met_by(self.answer))
+        !self.statement.allows(self.answer)
     }
 }
 
@@ -31,18 +34,25 @@ impl Played<'_> {
 pub struct Play<'s> {
     pub player: Player,
     pub played: Vec<Played<'s>>,
-    /// The line that ended the play early: it uses a name whose call was refused.
+    /// The line that ended the play early: it uses a name whose call was refused, or rights that the level does not know.
     pub stopped: Option<BadLine>,
 }
 
-impl Play<'_> {
+impl<'s> Play<'s> {
+    /// How many lines name the answer that they expect.
     pub fn expectations(&self) -> usize {
-        let expects = |played: &&Played| played.statement.expected.is_some();
+        let expects = |played: &&Played| played.statement.names_an_answer();
         self.played.iter().filter(expects).count()
     }
 
-    pub fn differing(&self) -> usize {
-        self.played.iter().filter(|played| played.differs()).count()
+    /// The lines whose answer differs from what they expect.
+    pub fn differing(&self) -> impl Iterator<Item = &Played<'s>> {
+        self.played.iter().filter(|played| played.differs())
+    }
+
+    /// Whether every line was played and answered as it expects.
+    pub fn is_as_expected(&self) -> bool {
+        self.stopped.is_none() && self.differing().next().is_none()
     }
 }
 
@@ -110,7 +120,7 @@ impl Player {
 
     fn ruleset_call(&mut self, call: &RulesetCall) -> Result<Answer, Bad> {
         Ok(match call {
-            RulesetCall::Create { bytes, flags } => self.create_ruleset(bytes, *flags),
+            RulesetCall::Create { bytes, flags } => self.create_ruleset(bytes, *flags)?,
             RulesetCall::Close { ruleset } => {
                 let ruleset = self.ruleset(ruleset)?;
                 done(self.tables.close_ruleset(ruleset))
@@ -144,15 +154,15 @@ impl Player {
         })
     }
 
-    fn create_ruleset(&mut self, bytes: &RulesetBytes, flags: u64) -> Answer {
+    fn create_ruleset(&mut self, bytes: &RulesetBytes, flags: u64) -> Result<Answer, Bad> {
         let ruleset = match bytes {
             RulesetBytes::Hex(bytes) => self.tables.create_ruleset(bytes, flags),
             RulesetBytes::Masks(masks) => {
-                let bytes = attribute(masks, self.tables.level());
+                let bytes = attribute(masks, self.tables.level())?;
                 self.tables.create_ruleset(&bytes, flags)
             }
         };
-        new(ruleset.map(Ruleset::number))
+        Ok(new(ruleset.map(Ruleset::number)))
     }
 
     fn layer_rules(&mut self, layer: Layer, rules: &mut Vec<Rule>) -> Answer {
@@ -237,20 +247,42 @@ impl Player {
     fn number(&self, space: Space, operand: &Operand) -> Result<u64, Bad> {
         self.names.number(space, operand).map_err(|name| {
             let noun = space.noun();
-            let found = format!("the {noun} `{name}`, whose call was refused");
+            let found = format!("the {noun} {}, whose call was refused", quoted(name));
             Bad::new(found, "a name that a successful call bound")
         })
     }
 }
 
-/// The bytes of an attribute given by its masks. Any size above 4,096 is answered alike, so none is made much longer.
-fn attribute(masks: &Masks, level: Level) -> Vec<u8> {
+/// The bytes of an attribute given by its masks: all of them, or as many as the line says.
+fn attribute(masks: &Masks, level: Level) -> Result<Vec<u8>, Bad> {
+    // Any size above 4,096 is answered alike, so none is made much longer.
     const LONGEST: usize = 4097;
-    let size = match masks.size {
-        Some(size) => usize::try_from(size).unwrap_or(LONGEST).min(LONGEST),
-        None => level.known_size(),
-    };
     let mut bytes = masks.attribute.to_bytes().to_vec();
-    bytes.resize(size, 0);
-    bytes
+    match masks.size {
+        Some(size) => bytes.resize(usize::try_from(size).unwrap_or(LONGEST).min(LONGEST), 0),
+        None => must_know(level, masks.attribute)?,
+    }
+    Ok(bytes)
+}
+
+/// That a level knows what a line without a size asks for. Where there are no rulesets, the call itself is refused.
+fn must_know(level: Level, asked: Attribute) -> Result<(), Bad> {
+    if level == Level::DISABLED || level > Level::LATEST {
+        return Ok(());
+    }
+    let (fs, net) = (Rights::of_level(level), PortRights::of_level(level));
+    let scope = Scopes::of_level(level);
+    let unknown = [
+        (!fs.contains(asked.fs)).then(|| format!("fs={}", asked.fs - fs)),
+        (!net.contains(asked.net)).then(|| format!("net={}", asked.net - net)),
+        (!scope.contains(asked.scope)).then(|| format!("scope={}", asked.scope - scope)),
+    ];
+    match unknown.into_iter().flatten().next() {
+        None => Ok(()),
+        Some(word) => {
+            let found = format!("{}, which level {level} does not know", quoted(&word));
+            let expected = "what the level knows, or `size=24` for the broker's own answer";
+            Err(Bad::new(found, expected))
+        }
+    }
 }

@@ -1,30 +1,52 @@
 //! What `skein run` shows: each call with its answer.
 use crate::json::Json;
+use crate::lines::{broken, Row};
 use crate::paint::Paint;
 use crate::play::{Play, Played};
-use crate::scenario::{Answer, Space};
-use skeinrabbit::Rule;
+use crate::scenario::{Answer, Call, RulesetCall, Space};
+use crate::words::shown;
+use skeinrabbit::{Errno, Rule};
 
 /// All calls, and how many answers differ.
-pub fn text(play: &Play, paint: Paint) -> String {
-    let layout = Layout::of(&play.played);
+pub fn text(play: &Play, width: usize, paint: Paint) -> String {
+    let layout = Layout::of(&play.played, width);
     let mut out = String::new();
     for played in &play.played {
         out.push_str(&layout.line(played, paint));
     }
-    out.push_str(&summary(play));
+    out.push_str(&broken(&summary(play), INDENT, width));
     out
 }
 
-/// The numbers of calls, expectations and differing answers.
+/// The numbers of calls, expectations and differing answers, with the lines of these.
 pub fn summary(play: &Play) -> String {
+    const MOST: usize = 10;
     let (calls, expectations) = (play.played.len(), play.expectations());
-    format!(
-        "{}, {}, {} differing\n",
+    let lines: Vec<usize> = play
+        .differing()
+        .map(|played| played.statement.line)
+        .collect();
+    let mut summary = format!(
+        "{}, {}, {} differing",
         counted(calls, "call"),
         counted(expectations, "expectation"),
-        play.differing()
-    )
+        lines.len()
+    );
+    for (place, line) in lines.iter().take(MOST).enumerate() {
+        let before = match (place, lines.len()) {
+            (0, 1) => ": line",
+            (0, _) => ": lines",
+            _ => ",",
+        };
+        summary.push_str(&format!("{before} {line}"));
+    }
+    if lines.len() > MOST {
+        summary.push_str(&format!(" and {} more", lines.len() - MOST));
+    }
+    if let Some(stopped) = &play.stopped {
+        summary.push_str(&format!("; stopped at line {}", stopped.line));
+    }
+    summary
 }
 
 /// A number with its noun.
@@ -33,56 +55,121 @@ pub fn counted(count: usize, noun: &str) -> String {
     format!("{count} {noun}{plural}")
 }
 
-/// The widths of the columns.
+/// What a line says of an answer that it does not allow.
+pub fn verdict(played: &Played) -> String {
+    match played.statement.expected {
+        Some(expected) => format!("expected {expected}"),
+        None => "must succeed".to_owned(),
+    }
+}
+
+/// Why a call was refused, in a few words.
+pub fn reason(played: &Played) -> Option<String> {
+    let Answer::Refused(errno) = played.answer else {
+        return None;
+    };
+    let reason = match (&played.statement.call, errno) {
+        (Call::Ruleset(RulesetCall::Restrict { .. }), Errno::EPERM) => {
+            "the thread has neither no_new_privs nor admin set"
+        }
+        _ => errno.description(),
+    };
+    Some(format!("{errno}: {reason}"))
+}
+
+/// How far a line that goes on is indented.
+const INDENT: usize = 4;
+/// The widest column of answers. Wider ones have a line of their own.
+const WIDEST_ANSWER: usize = 24;
+
+/// The columns.
 pub struct Layout {
+    width: usize,
+    /// The widest word that fits in a line that goes on.
+    room: usize,
     line: usize,
+    /// Where the call, its answer and the verdict start.
     text: usize,
     answer: usize,
+    verdict: usize,
 }
 
 impl Layout {
-    pub fn of(played: &[Played]) -> Layout {
-        const WIDEST: usize = 60;
-        let width = |of: fn(&Played) -> usize| played.iter().map(of).max().unwrap_or(0);
+    pub fn of(played: &[Played], width: usize) -> Layout {
+        // The widest that is not too wide, so that a long call does not push away the answers of the others.
+        let widest = |of: &dyn Fn(&Played) -> usize, most: usize| {
+            let widths = played.iter().map(of).filter(|width| *width <= most);
+            widths.max().unwrap_or(0)
+        };
+        let gap = 2;
+        let line = widest(&|played| played.statement.line.to_string().len(), width);
+        let text = line + gap;
+        let room = width.saturating_sub(text + INDENT);
+        let answers = widest(
+            &|played| answer(played, room).chars().count(),
+            WIDEST_ANSWER,
+        );
+        let most = width.saturating_sub(text + gap + answers + gap + "ok".len());
+        let texts = widest(&|played| call_text(played, room).chars().count(), most);
+        let answer = text + texts + gap;
+        let verdict = answer + answers + gap;
         Layout {
-            line: width(|played| played.statement.line.to_string().len()),
-            text: width(|played| played.statement.text.chars().count()).min(WIDEST),
-            answer: width(|played| answer(played).chars().count()),
+            width,
+            room,
+            line,
+            text,
+            answer,
+            verdict,
         }
     }
 
     /// A call with its answer, marked where it differs, and the rules of a layer below.
     pub fn line(&self, played: &Played, paint: Paint) -> String {
         let statement = played.statement;
-        let verdict = match statement.expected {
-            None => String::new(),
-            Some(_) if !played.differs() => paint.granted("ok"),
-            Some(expected) => paint.differing(&format!("DIFFERS: expected {expected}")),
-        };
-        let line = format!(
-            "{:>line$}  {:<text$}  {:<answer$}  {verdict}",
-            statement.line,
-            statement.text,
-            answer(played),
-            line = self.line,
-            text = self.text,
-            answer = self.answer,
-        );
-        let mut out = format!("{}\n", line.trim_end());
+        let plain = str::to_owned;
+        let indent = self.text + INDENT;
+        let mut row = Row::new(indent, self.width);
+        let number = statement.line.to_string();
+        row.cell(self.line.saturating_sub(number.len()), &number, plain);
+        row.fill(self.text, &call_text(played, self.room));
+        row.cell(self.answer, &answer(played, self.room), plain);
+        if played.differs() {
+            let verdict = format!("DIFFERS: {}", verdict(played));
+            row.cell(self.verdict, &verdict, |text| paint.differing(text));
+            if let Some(reason) = reason(played) {
+                row.cell(indent, &reason, plain);
+            }
+        } else if statement.names_an_answer() {
+            row.cell(self.verdict, "ok", |text| paint.granted(text));
+        }
+        let mut out = row.end();
         for rule in &played.rules {
-            let indent = self.line + 4;
-            out.push_str(&format!("{:indent$}{}\n", "", rule_text(rule)));
+            let mut row = Row::new(indent + INDENT, self.width);
+            row.fill(indent, &rule_text(rule));
+            out.push_str(&row.end());
         }
         out
     }
 }
 
+/// The call and its arguments, with what is very long cut.
+fn call_text(played: &Played, widest: usize) -> String {
+    let pieces = played.statement.text.split_inclusive([' ', '+']);
+    let pieces = pieces.map(|piece| {
+        let word = piece.trim_end_matches([' ', '+']);
+        let end = piece.strip_prefix(word).unwrap_or_default();
+        format!("{}{end}", shown(word, widest))
+    });
+    pieces.collect()
+}
+
 /// The answer, with the name that it is bound to.
-fn answer(played: &Played) -> String {
-    match (played.answer, &played.statement.binds) {
+fn answer(played: &Played, widest: usize) -> String {
+    let answer = match (played.answer, &played.statement.binds) {
         (answer @ Answer::New(_), Some((_, name))) => format!("{answer} -> {name}"),
         (answer, _) => answer.to_string(),
-    }
+    };
+    shown(&answer, widest)
 }
 
 fn rule_text(rule: &Rule) -> String {
@@ -99,11 +186,12 @@ pub fn json(file: &str, play: &Play) -> Json {
         ("file", Json::text(file)),
         ("calls", Json::list(&play.played, call_json)),
         ("expectations", Json::count(play.expectations())),
-        ("differing", Json::count(play.differing())),
+        ("differing", Json::count(play.differing().count())),
     ])
 }
 
-fn call_json(played: &Played) -> Json {
+/// A call with its answer.
+pub fn call_json(played: &Played) -> Json {
     let statement = played.statement;
     let (number, errno) = match played.answer {
         Answer::Done => (Some(0), None),

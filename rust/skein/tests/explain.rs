@@ -75,12 +75,82 @@ fn tables_that_are_not_sound_are_not_drawn() {
     assert!(document.at("threads").list().is_empty());
 }
 
+/// Layer B's policy, whose restrict is refused: no mark is set.
+const UNRESTRICTED: &str = "\
+create main root directory -> cal
+create_ruleset fs=8486 -> B
+add_path_rule B cal 8452
+restrict main B
+access main cal write_file
+";
+
+const NOT_DRAWN: &str = "\
+skein: -: nothing is drawn, as not every call answered as its line says; `=>
+    any` lets a call answer anything
+";
+
 #[test]
-fn a_differing_answer_is_told() {
-    let ran = skein_with(&["explain", "-"], b"clone main => EAGAIN\n");
+fn a_policy_whose_restrict_was_refused_is_not_drawn() {
+    let ran = skein_with(&["explain", "-"], UNRESTRICTED.as_bytes());
+    assert_eq!((ran.code, ran.out.as_str()), (1, ""));
+    let refused = "\
+-:4: `restrict main B` must succeed, but answered EPERM: the thread has neither
+    no_new_privs nor admin set
+";
+    assert_eq!(ran.err, format!("{refused}{NOT_DRAWN}"));
+}
+
+#[test]
+fn json_has_the_differing_calls_and_nothing_to_draw() {
+    let ran = skein_with(&["explain", "--json", "-"], UNRESTRICTED.as_bytes());
     assert_eq!(ran.code, 1);
-    assert_eq!(ran.err, "skein: -: 1 call, 1 expectation, 1 differing\n");
-    assert!(ran.out.contains("└") || ran.out.contains("root"));
+    let document = json(&ran.out);
+    let [call] = document.at("differing").list() else {
+        panic!("one call differs");
+    };
+    assert_eq!(call.at("line").number(), 4);
+    assert_eq!(call.at("text").text(), "restrict main B");
+    assert_eq!(call.at("answer").text(), "EPERM");
+    assert_eq!(call.at("expected"), &Value::Null);
+    assert_eq!(call.at("differs"), &Value::Bool(true));
+    assert_eq!(document.at("sound"), &Value::Bool(true));
+    for list in ["rights", "entries", "threads"] {
+        assert!(document.at(list).list().is_empty(), "{list}");
+    }
+}
+
+#[test]
+fn each_line_that_differs_is_named_before_the_one_that_stops() {
+    let text = "clone 9 -> t\nclone main => EAGAIN\nclone t\nclone main\n";
+    let ran = skein_with(&["explain", "-"], text.as_bytes());
+    let message = "\
+-:1: `clone 9` must succeed, but answered ESRCH: no such thread
+-:2: `clone main` expected EAGAIN, but answered new 1
+-:3: found the thread `t`, whose call was refused; expected a name that a
+    successful call bound
+";
+    let left = (ran.code, ran.out.as_str(), ran.err.as_str());
+    assert_eq!(left, (2, "", message));
+}
+
+#[test]
+fn any_answer_of_any_kind_that_differs_keeps_the_picture_back() {
+    for line in [
+        "clone main => EAGAIN",
+        "clone main => new 2",
+        "clone 9 => 0",
+        "clone 9 => ok",
+        "clone 9 => new",
+        "clone 9",
+    ] {
+        let ran = skein_with(&["explain", "-"], line.as_bytes());
+        assert_eq!((ran.code, ran.out.as_str()), (1, ""), "{line}");
+        assert!(ran.err.ends_with(NOT_DRAWN), "{line}: {}", ran.err);
+        let allowed = line.split(" =>").next().unwrap().to_owned() + " => any";
+        let ran = skein_with(&["explain", "-"], allowed.as_bytes());
+        assert_eq!((ran.code, ran.err.as_str()), (0, ""), "{allowed}");
+        assert!(ran.out.contains("root"), "{allowed}: {}", ran.out);
+    }
 }
 
 #[test]
@@ -168,6 +238,7 @@ fn every_right_of_its_kind_is_granted_or_denied() {
 fn json_has_the_documented_fields() {
     let document = json(&skein_with(&["explain", "--json", "-"], LINKED.as_bytes()).out);
     assert_eq!(document.at("command").text(), "explain");
+    assert!(document.at("differing").list().is_empty());
     assert_eq!(document.at("level").number(), 6);
     let rights = [
         "write_file",
@@ -200,7 +271,7 @@ fn json_has_the_documented_fields() {
 }
 
 #[test]
-fn pictures_fit_in_100_columns() {
+fn pictures_fit_in_80_columns() {
     let mut text = String::from("create main root directory -> d0\n");
     for depth in 1..40 {
         let name = "n".repeat(depth);
@@ -218,10 +289,15 @@ fn pictures_fit_in_100_columns() {
     let ran = skein_with(&["explain", "--all-rights", "-"], text.as_bytes());
     assert_eq!((ran.code, ran.err.as_str()), (0, ""));
     for line in ran.out.lines() {
-        assert!(line.chars().count() <= 100, "{line}");
+        assert!(line.chars().count() <= 80, "{line}");
     }
     assert!(ran.out.contains("layers 16 17 18"), "{}", ran.out);
-    assert!(ran.out.contains("…depth 40"), "{}", ran.out);
+    assert!(ran.out.contains("…40 nn…"), "{}", ran.out);
+    assert!(
+        ran.out.contains("…N: an entry with N directories above it"),
+        "{}",
+        ran.out
+    );
     assert!(ran.out.contains("4294967295 ×2"), "{}", ran.out);
 }
 
@@ -269,7 +345,9 @@ fn the_demo_shows_the_tree_and_the_worked_answers() {
         assert!(ran.out.contains(case), "{case}");
     }
     assert!(!ran.out.contains("DIFFERS"));
-    assert!(ran.out.lines().all(|line| line.chars().count() <= 100));
+    for ran in [ran, skein(&["demo", "--all-rights"])] {
+        assert!(ran.out.lines().all(|line| line.chars().count() <= 80));
+    }
 }
 
 #[test]

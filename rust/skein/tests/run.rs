@@ -1,6 +1,6 @@
 //! `skein run`: transcripts, marks and exit codes.
 mod support;
-use support::{example, json, skein, skein_with, Scratch, Value, EXAMPLES};
+use support::{example, json, skein, skein_with, unbroken, Scratch, Value, EXAMPLES};
 
 #[test]
 fn the_examples_are_answered_as_they_expect() {
@@ -37,7 +37,7 @@ fn a_transcript_has_each_call_with_its_answer() {
 create main root regular -> page => new 1
 
 access  main\tpage 0x2 # write
-close_ruleset 3
+close_ruleset 3 => any
 ";
     let ran = skein_with(&["run", "-"], text.as_bytes());
     let expected = "\
@@ -50,6 +50,82 @@ close_ruleset 3
 }
 
 #[test]
+fn a_line_that_expects_nothing_must_succeed() {
+    let text = "\
+create_ruleset fs=4 -> rs
+restrict main rs
+access main root read_file
+close_ruleset 3
+";
+    let ran = skein_with(&["run", "-"], text.as_bytes());
+    let expected = "\
+1  create_ruleset fs=4         new 0 -> rs
+2  restrict main rs            EPERM        DIFFERS: must succeed
+       EPERM: the thread has neither no_new_privs nor admin set
+3  access main root read_file  0
+4  close_ruleset 3             EBADF        DIFFERS: must succeed
+       EBADF: not open, not live or not in use
+4 calls, 0 expectations, 2 differing: lines 2, 4
+";
+    assert_eq!((ran.code, ran.out.as_str()), (1, expected));
+    let document = json(&skein_with(&["run", "--json", "-"], text.as_bytes()).out);
+    assert_eq!(document.at("expectations").number(), 0);
+    assert_eq!(document.at("differing").number(), 2);
+    for (call, differs) in document
+        .at("calls")
+        .list()
+        .iter()
+        .zip([false, true, false, true])
+    {
+        assert_eq!(call.at("expected"), &Value::Null);
+        assert_eq!(call.at("differs"), &Value::Bool(differs));
+    }
+}
+
+#[test]
+fn answers_may_be_left_open() {
+    let text = "\
+clone main => new
+clone main => ok
+set_no_new_privs main => ok
+set_no_new_privs main => new
+clone 9 => any
+clone 9 => ok
+clone 9 => new
+";
+    let ran = skein_with(&["run", "-"], text.as_bytes());
+    let expected = "\
+1  clone main             new 1  ok
+2  clone main             new 2  ok
+3  set_no_new_privs main  0      ok
+4  set_no_new_privs main  0      DIFFERS: expected new
+5  clone 9                ESRCH
+6  clone 9                ESRCH  DIFFERS: expected ok
+       ESRCH: no such thread
+7  clone 9                ESRCH  DIFFERS: expected new
+       ESRCH: no such thread
+7 calls, 6 expectations, 3 differing: lines 4, 6, 7
+";
+    assert_eq!((ran.code, ran.out.as_str()), (1, expected));
+    let document = json(&skein_with(&["run", "--json", "-"], text.as_bytes()).out);
+    let expected: Vec<&str> = document
+        .at("calls")
+        .list()
+        .iter()
+        .map(|call| call.at("expected").text())
+        .collect();
+    assert_eq!(expected, ["new", "ok", "ok", "new", "any", "ok", "new"]);
+}
+
+#[test]
+fn many_differing_lines_are_counted() {
+    let ran = skein_with(&["run", "-"], &b"clone 9\n".repeat(12));
+    let lines = "lines 1, 2, 3, 4, 5, 6, 7, 8, 9, 10 and 2 more";
+    let summary = format!("\n12 calls, 0 expectations, 12 differing: {lines}\n");
+    assert!(unbroken(&ran.out).ends_with(&summary), "{}", ran.out);
+}
+
+#[test]
 fn a_differing_answer_is_marked() {
     let text = "clone main => 0\nclone main => new 2\nclone 9 => EACCES\nclone 9 => -3\n";
     let ran = skein_with(&["run", "-"], text.as_bytes());
@@ -57,8 +133,9 @@ fn a_differing_answer_is_marked() {
 1  clone main  new 1  DIFFERS: expected 0
 2  clone main  new 2  ok
 3  clone 9     ESRCH  DIFFERS: expected EACCES
+       ESRCH: no such thread
 4  clone 9     ESRCH  ok
-4 calls, 4 expectations, 2 differing
+4 calls, 4 expectations, 2 differing: lines 1, 3
 ";
     assert_eq!((ran.code, ran.out.as_str()), (1, expected));
 }
@@ -89,14 +166,14 @@ add_path_rule r root 4
 set_admin main on
 restrict main r
 layer_rules 0
-layer_rules 1
+layer_rules 1 => EBADF
 ";
     let ran = skein_with(&["run", "-"], text.as_bytes());
     let shown = "\
 6  layer_rules 0                0
-     port 80: bind_tcp
-     object 0: read_file
-7  layer_rules 1                EBADF
+       port 80: bind_tcp
+       object 0: read_file
+7  layer_rules 1                EBADF       ok
 ";
     assert!(ran.out.contains(shown), "{}", ran.out);
     let document = json(&skein_with(&["run", "--json", "-"], text.as_bytes()).out);
@@ -233,21 +310,158 @@ create main 2 directory => new 3
 }
 
 #[test]
-fn a_default_attribute_has_the_known_size() {
-    // What the level does not know is cut off; with a size it is there and refused.
+fn a_right_that_the_level_does_not_know_is_bad_input() {
+    // Each level with the first right of each mask that it does not know, from document 01's list.
+    for (level, word) in [
+        (1, "fs=refer"),
+        (1, "net=bind_tcp"),
+        (1, "scope=signal"),
+        (2, "fs=truncate"),
+        (3, "fs=ioctl_dev"),
+        (3, "net=connect_tcp"),
+        (4, "fs=ioctl_dev"),
+        (4, "scope=abstract_unix_socket"),
+        (5, "scope=signal"),
+        (6, "fs=0x10000"),
+        (6, "net=0x4"),
+        (6, "scope=0x4"),
+    ] {
+        let text = format!(
+            "fresh {level}\ncreate_ruleset fs=read_file\ncreate_ruleset {word}\nclone main"
+        );
+        let ran = skein_with(&["run", "-"], text.as_bytes());
+        let found = format!("-:3: found `{word}`, which level {level} does not know;");
+        assert_eq!(ran.code, 2, "{word}: {}", ran.out);
+        assert!(unbroken(&ran.err).starts_with(&found), "{}", ran.err);
+        assert!(
+            ran.out
+                .ends_with("2 calls, 0 expectations, 0 differing; stopped at line 3\n"),
+            "{}",
+            ran.out
+        );
+        for options in [
+            &["run", "--json", "-"][..],
+            &["explain", "-"],
+            &["explain", "--json", "-"],
+        ] {
+            let ran = skein_with(options, text.as_bytes());
+            assert_eq!((ran.code, ran.out.as_str()), (2, ""), "{word}");
+        }
+        // With a size or as bytes it is the broker that is asked.
+        let raw = text.replace(
+            word,
+            &format!("{word} size=24 => {}", broker_answer(level, word)),
+        );
+        let ran = skein_with(&["run", "-"], raw.as_bytes());
+        assert_eq!(ran.code, 0, "{word}: {}", ran.out);
+    }
+}
+
+/// What document 01 answers to an attribute of 24 bytes: E2BIG for a byte past the known size, else EINVAL for the bit.
+fn broker_answer(level: u64, word: &str) -> &'static str {
+    let known = match level {
+        1..=3 => 8,
+        4 | 5 => 16,
+        _ => 24,
+    };
+    let from = match word.split('=').next() {
+        Some("fs") => 0,
+        Some("net") => 8,
+        _ => 16,
+    };
+    if from < known {
+        "EINVAL"
+    } else {
+        "E2BIG"
+    }
+}
+
+#[test]
+fn the_level_is_that_of_the_tables() {
+    // A fresh that is refused leaves the level, a poke writes it.
+    for (lines, code) in [
+        ("fresh 3\nfresh 7 => EINVAL", 2),
+        ("fresh 7 => EINVAL", 0),
+        ("fresh 3\nfresh 4", 0),
+        ("fresh 3\npoke system 0 4", 0),
+        ("poke system 0 3", 2),
+    ] {
+        let text = format!("{lines}\ncreate_ruleset net=bind_tcp => new 0\n");
+        let ran = skein_with(&["run", "-"], text.as_bytes());
+        assert_eq!(ran.code, code, "{lines}: {}{}", ran.out, ran.err);
+    }
+}
+
+#[test]
+fn where_there_are_no_rulesets_the_broker_is_asked() {
+    let text = "\
+fresh 0
+create_ruleset fs=4 net=1 scope=1 => EOPNOTSUPP
+poke system 0 7
+create_ruleset fs=0x10000 => EIO
+";
+    let ran = skein_with(&["run", "-"], text.as_bytes());
+    assert_eq!(ran.code, 0, "{}{}", ran.out, ran.err);
+}
+
+#[test]
+fn a_size_cuts_or_fills_the_attribute() {
     let text = "\
 fresh 3
-create_ruleset fs=4 net=1 => new 0
+create_ruleset fs=4 net=1 size=8 => new 0
 create_ruleset fs=4 net=1 size=16 => E2BIG
-create_ruleset net=1 => ENOMSG
+create_ruleset net=1 size=8 => ENOMSG
 fresh 5
-create_ruleset net=1 scope=1 => new 0
-fresh 0
-create_ruleset fs=4 => EOPNOTSUPP
+create_ruleset net=1 scope=1 size=16 => new 0
 fresh 6
 create_ruleset scope=3 => new 0
+create_ruleset fs=4 size=7 => EINVAL
 create_ruleset fs=4 size=18446744073709551615 => E2BIG
 ";
     let ran = skein_with(&["run", "-"], text.as_bytes());
     assert_eq!(ran.code, 0, "{}", ran.out);
+}
+
+#[test]
+fn long_calls_are_broken_into_lines() {
+    let text = "\
+create main root directory -> a-rather-long-name-for-a-folder-of-calibration => new 1
+create_ruleset fs=read_file+write_file+remove_file+make_reg+refer -> policy => new 0
+add_path_rule policy a-rather-long-name-for-a-folder-of-calibration 0x2104 => ENOENT
+clone main -> worker => new 1
+";
+    let ran = skein_with(&["run", "-"], text.as_bytes());
+    let expected = "\
+1  create main root directory
+       new 1 -> a-rather-long-name-for-a-folder-of-calibration
+                                                ok
+2  create_ruleset fs=read_file+write_file+remove_file+make_reg+refer
+                               new 0 -> policy  ok
+3  add_path_rule policy a-rather-long-name-for-a-folder-of-calibration 0x2104
+                               0                DIFFERS: expected ENOENT
+4  clone main                  new 1 -> worker  ok
+4 calls, 4 expectations, 1 differing: line 3
+";
+    assert_eq!((ran.code, ran.out.as_str()), (1, expected), "\n{}", ran.out);
+}
+
+#[test]
+fn no_name_is_too_long() {
+    for length in [60, 80, 65_535, 65_536, 1_000_000] {
+        let name = "n".repeat(length);
+        let text = format!(
+            "create main root directory -> {name}\ncreate main {name} fifo\nclone main -> {name}\n"
+        );
+        for command in ["run", "explain"] {
+            let ran = skein_with(&[command, "-"], text.as_bytes());
+            assert_eq!((ran.code, ran.err.as_str()), (0, ""), "{command} {length}");
+            assert!(
+                ran.out.lines().all(|line| line.chars().count() <= 80),
+                "{command} {length}"
+            );
+        }
+        let document = json(&skein_with(&["run", "--json", "-"], text.as_bytes()).out);
+        let bound = document.at("calls").list()[0].at("bound").at("name").text();
+        assert_eq!(bound, name, "JSON has it whole");
+    }
 }

@@ -1,7 +1,7 @@
 //! Wrong usage, bad input, colour, help.
 mod support;
 use std::process::Stdio;
-use support::{command, example, skein, skein_with};
+use support::{command, example, skein, skein_with, unbroken, Scratch};
 
 #[test]
 fn wrong_usage_is_64() {
@@ -47,18 +47,20 @@ fn bad_input_is_2_with_its_places() {
         for options in [&[command, "-"][..], &[command, "--json", "-"]] {
             let ran = skein_with(options, text);
             assert_eq!((ran.code, ran.out.as_str()), (2, ""));
-            let lines: Vec<&str> = ran.err.lines().collect();
+            let messages = unbroken(&ran.err);
+            let lines: Vec<&str> = messages.lines().collect();
             assert_eq!(lines.len(), 2);
             assert!(
-                lines[0].starts_with("-:2: found `walk`; expected a call: "),
+                lines[0].starts_with("-:2: found `walk`; expected a call: fresh, "),
                 "{}",
                 lines[0]
             );
             assert!(
-                lines[1].starts_with("-:3: found `maybe`; expected an answer: "),
+                lines[1].starts_with("-:3: found `maybe`; expected a number, `new`, "),
                 "{}",
                 lines[1]
             );
+            assert!(ran.err.lines().all(|line| line.chars().count() <= 80));
         }
     }
 }
@@ -67,27 +69,119 @@ fn bad_input_is_2_with_its_places() {
 fn many_bad_lines_are_counted() {
     let ran = skein_with(&["run", "-"], &b"walk\n".repeat(1000));
     assert_eq!(ran.code, 2);
-    assert_eq!(ran.err.lines().count(), 21);
+    assert_eq!(unbroken(&ran.err).lines().count(), 21);
     assert!(ran.err.ends_with("-: 980 more bad lines\n"), "{}", ran.err);
 }
 
 #[test]
+fn a_scenario_without_a_call_is_bad_input() {
+    for text in ["", "\n\n", "# clone main\n"] {
+        for options in [
+            &["run", "-"][..],
+            &["run", "--json", "-"],
+            &["explain", "-"],
+            &["explain", "--json", "-"],
+        ] {
+            let ran = skein_with(options, text.as_bytes());
+            let message = "-:1: found no call; expected at least one line with a call\n";
+            assert_eq!(
+                (ran.code, ran.out.as_str(), ran.err.as_str()),
+                (2, "", message)
+            );
+        }
+    }
+}
+
+#[test]
 fn a_name_whose_call_was_refused_is_bad_input() {
-    let text = b"clone 9 -> t\nclone t\n";
-    let message = "-:2: found the thread `t`, whose call was refused; expected a name that a successful call bound\n";
+    let text = b"clone 9 -> t => ESRCH\nclone t\n";
+    let message = "\
+-:2: found the thread `t`, whose call was refused; expected a name that a
+    successful call bound
+";
     let ran = skein_with(&["run", "-"], text);
     assert_eq!((ran.code, ran.err.as_str()), (2, message));
-    assert!(ran.out.starts_with("1  clone 9  ESRCH\n"), "{}", ran.out);
-    let ran = skein_with(&["run", "--json", "-"], text);
-    assert_eq!(
-        (ran.code, ran.out.as_str(), ran.err.as_str()),
-        (2, "", message)
+    let played = "\
+1  clone 9  ESRCH  ok
+1 call, 1 expectation, 0 differing; stopped at line 2
+";
+    assert_eq!(ran.out, played);
+    for options in [
+        &["run", "--json", "-"][..],
+        &["explain", "-"],
+        &["explain", "--json", "-"],
+    ] {
+        let ran = skein_with(options, text);
+        let left = (ran.code, ran.out.as_str(), ran.err.as_str());
+        assert_eq!(left, (2, "", message));
+    }
+}
+
+#[test]
+fn unknown_words_of_the_command_line_get_the_known_ones() {
+    for (words, message) in [
+        (&["walk"][..], "there is no command `walk`; expected one: run, explain, demo\n"),
+        (&["Explain", "f"], "there is no command `Explain`; expected one: perhaps `explain`\n"),
+        (&["run", "f", "--jsno"], "there is no option `--jsno`; expected one: perhaps `--json`\n"),
+        (&["run", "f", "--colour=never"], "there is no option `--colour=never`; expected one: --json, --all-rights, --color, --help, --version\n"),
+    ] {
+        let ran = skein(words);
+        assert_eq!(ran.code, 64);
+        assert!(unbroken(&ran.err).starts_with(&format!("skein: {message}")), "{}", ran.err);
+    }
+}
+
+#[test]
+fn control_characters_do_not_reach_the_terminal() {
+    let odd = "a\u{1b}[2J\r\n\u{202e}b";
+    let escaped = "a\\u{1b}[2J\\r\\n\\u{202e}b";
+    let bad = Scratch::new(
+        odd,
+        format!("{odd}\nclone main => {odd}\nclone \0\n").as_bytes(),
     );
-    let ran = skein_with(&["explain", "-"], text);
-    assert_eq!(
-        (ran.code, ran.out.as_str(), ran.err.as_str()),
-        (2, "", message)
-    );
+    let differing = Scratch::new(&format!("{odd}2"), b"clone 9\n");
+    let color = format!("--{odd}");
+    for words in [
+        &["run", odd][..],
+        &["run", bad.path()],
+        &["explain", bad.path()],
+        &["explain", differing.path()],
+        &[odd],
+        &["run", "a", odd],
+        &["run", "a", &color],
+        &["run", "a", "--color", odd],
+    ] {
+        let ran = skein(words);
+        assert!([1, 2, 3, 64].contains(&ran.code), "{words:?}");
+        let control = |c: char| c != '\n' && (c.is_control() || c == '\u{202e}');
+        assert!(
+            !ran.err.contains(control) && !ran.out.contains(control),
+            "{}",
+            ran.err
+        );
+        assert!(
+            unbroken(&ran.err).contains(escaped),
+            "{words:?}: {}",
+            ran.err
+        );
+    }
+}
+
+#[test]
+#[cfg(unix)]
+fn words_need_not_be_text() {
+    use std::ffi::OsStr;
+    use std::os::unix::ffi::OsStrExt;
+    let junk = OsStr::from_bytes(b"--\xff\xfe");
+    for (words, code) in [
+        (&["run"][..], 3),
+        (&["run", "a"], 64),
+        (&["run", "a", "--color"], 64),
+        (&[], 64),
+    ] {
+        let output = command(words).arg(junk).output().expect("the program runs");
+        assert_eq!(output.status.code(), Some(code), "{words:?}");
+    }
 }
 
 #[test]
@@ -108,7 +202,7 @@ fn help_and_version_are_0() {
         assert!(help.out.contains(word), "{word}");
     }
     assert!(
-        help.out.lines().all(|line| line.chars().count() <= 102),
+        help.out.lines().all(|line| line.chars().count() <= 80),
         "wide help"
     );
     assert_eq!(skein(&["-h"]).out, help.out);

@@ -1,19 +1,22 @@
 //! The picture as JSON.
-use super::{Held, Node, Picture, PortView, ThreadView};
+use super::{Explained, Held, Node, PortView, ThreadView};
 use crate::json::Json;
-use crate::transcript::rights_json;
-use skeinrabbit::{Entry, Level};
+use crate::play::Play;
+use crate::transcript::{call_json, rights_json};
+use skeinrabbit::Entry;
 
-/// The members of the JSON document of `skein explain`; no entries and threads where the tables are not sound.
-pub fn json(file: &str, level: Level, picture: Option<&Picture>) -> Json {
+/// The members of the JSON document of `skein explain`; no entries and threads where there is no picture.
+pub fn json(file: &str, play: &Play, explained: &Explained) -> Json {
+    let picture = explained.picture.as_ref();
     let nodes = picture.map_or(&[][..], |picture| &picture.nodes);
     let threads = picture.map_or(&[][..], |picture| &picture.threads);
     let columns = picture.map(|picture| picture.columns).unwrap_or_default();
     Json::Object(vec![
         ("command", Json::text("explain")),
         ("file", Json::text(file)),
-        ("sound", Json::Bool(picture.is_some())),
-        ("level", Json::Number(level.number())),
+        ("differing", Json::list(play.differing(), call_json)),
+        ("sound", Json::Bool(explained.sound)),
+        ("level", Json::Number(explained.level.number())),
         ("rights", rights_json(columns.iter())),
         ("entries", Json::list(nodes, node_json)),
         (

@@ -1,4 +1,4 @@
-//! What each thread may do at each entry and port, asked of the core.
+//! What a scenario leaves: what each thread may do at each entry and port, asked of the core.
 mod json;
 mod text;
 mod tree;
@@ -7,10 +7,33 @@ pub use json::json;
 pub use text::text;
 pub use tree::Node;
 
-use crate::play::Player;
+use crate::play::{Play, Player};
 use crate::scenario::Space;
-use skeinrabbit::{EntryRow, Layer, PortRights, Rights, Rule, Tables, Thread, ThreadRow};
+use skeinrabbit::{EntryRow, Layer, Level, PortRights, Rights, Rule, Tables, Thread, ThreadRow};
 use std::collections::BTreeSet;
+
+/// What a scenario leaves, as far as it may be shown.
+pub struct Explained {
+    pub level: Level,
+    /// Whether the tables are sound.
+    pub sound: bool,
+    /// None where the tables are not sound, and where an answer differs: the policy is then not the one that was written.
+    pub picture: Option<Picture>,
+}
+
+impl Explained {
+    /// Asks the core. Shows all 16 rights, or those that some layer handles.
+    pub fn of(play: &mut Play, all_rights: bool) -> Explained {
+        let as_expected = play.is_as_expected();
+        let player = &mut play.player;
+        let sound = player.tables.is_sound();
+        Explained {
+            level: player.tables.level(),
+            sound,
+            picture: (sound && as_expected).then(|| Picture::ask(player, all_rights)),
+        }
+    }
+}
 
 /// The tree and what each thread may do with it.
 pub struct Picture {
@@ -46,11 +69,7 @@ pub struct PortView {
 }
 
 impl Picture {
-    /// Asks the core; none where the tables are not sound. Shows all 16 rights, or those that some layer handles.
-    pub fn ask(player: &mut Player, all_rights: bool) -> Option<Picture> {
-        if !player.tables.is_sound() {
-            return None;
-        }
+    fn ask(player: &mut Player, all_rights: bool) -> Picture {
         let columns = if all_rights {
             Rights::ALL
         } else {
@@ -73,11 +92,11 @@ impl Picture {
             ports: port_views(&mut player.tables, row.thread, &ports),
         });
         let threads = threads.collect();
-        Some(Picture {
+        Picture {
             columns,
             nodes,
             threads,
-        })
+        }
     }
 }
 

@@ -1,23 +1,32 @@
-//! The picture in plain text, at most 100 columns wide.
-use super::{Held, Node, Picture, ThreadView};
+//! The picture in plain text.
+use super::{Explained, Held, Node, Picture, ThreadView};
+use crate::lines::broken;
 use crate::paint::Paint;
+use crate::words::shown;
 use skeinrabbit::{PortRights, Rights};
 
-/// The widest line.
-const WIDEST: usize = 100;
 /// The widest name of a thread.
 const WIDEST_THREAD: usize = 40;
 
+/// The picture, or why there is none. Where an answer differs, messages say so.
+pub fn text(explained: &Explained, width: usize, paint: Paint) -> String {
+    match &explained.picture {
+        Some(picture) => picture_text(picture, width, paint),
+        None if explained.sound => String::new(),
+        None => "The tables are not sound: every call answers EIO.\n".to_owned(),
+    }
+}
+
 /// The tree with a matrix of rights for each thread, then the ports.
-pub fn text(picture: &Picture, paint: Paint) -> String {
-    let left = Left::of(picture);
+fn picture_text(picture: &Picture, width: usize, paint: Paint) -> String {
+    let left = Left::of(picture, width);
     let mut out = String::new();
     if picture.columns.is_empty() {
         out.push_str(&left.matrix(picture, None, paint));
         out.push_str("\nNo layer handles a right: every thread may do everything.\n");
     } else {
         for view in &picture.threads {
-            out.push_str(&format!("{}\n", paint.heading(&thread_line(view))));
+            out.push_str(&heading(&thread_line(view), width, paint));
             out.push_str(&left.matrix(picture, Some(view), paint));
             out.push('\n');
         }
@@ -26,8 +35,20 @@ pub fn text(picture: &Picture, paint: Paint) -> String {
     if picture.nodes.iter().any(|node| node.links > 1) {
         out.push_str("×N: an object with N entries (hard links)\n");
     }
+    if picture.nodes.iter().any(|node| !is_drawn(node, left.tree)) {
+        out.push_str("…N: an entry with N directories above it, too deep to be drawn\n");
+    }
     out.push_str(&ports(picture, paint));
     out
+}
+
+/// A heading, broken where it is too wide.
+fn heading(text: &str, width: usize, paint: Paint) -> String {
+    let lines = broken(text, 2, width);
+    let painted = lines
+        .lines()
+        .map(|line| format!("{}\n", paint.heading(line)));
+    painted.collect()
 }
 
 /// A thread with its layers and marks.
@@ -47,40 +68,35 @@ fn thread_line(view: &ThreadView) -> String {
             rest.push_str(&format!("; {mark}"));
         }
     }
-    let line = format!("thread {}: {rest}", label(view));
-    if line.chars().count() <= WIDEST {
-        line
-    } else {
-        format!("thread {}:\n  {rest}", label(view))
-    }
+    format!("thread {}: {rest}", label(view))
 }
 
 /// A thread's name, or else its number.
 fn label(view: &ThreadView) -> String {
     let number = || view.row.thread.to_string();
-    cut(&view.name.clone().unwrap_or_else(number), WIDEST_THREAD)
+    shown(&view.name.clone().unwrap_or_else(number), WIDEST_THREAD)
 }
 
-/// Text cut to a width.
-fn cut(text: &str, widest: usize) -> String {
-    if text.chars().count() <= widest {
-        return text.to_owned();
-    }
-    let mut short: String = text.chars().take(widest.saturating_sub(1)).collect();
-    short.push('…');
-    short
+/// Whether the lines that lead to an entry leave room for its name, or for the beginning of a long one.
+fn is_drawn(node: &Node, widest: usize) -> bool {
+    let beginning = node_name(node).chars().count().min(6);
+    node.branch.chars().count() + beginning <= widest
 }
 
 /// An entry's name or number, behind the lines that lead to it or, where these are too long, its depth.
 fn entry_label(node: &Node, widest: usize) -> String {
-    let number = || node.row.entry.to_string();
-    let name = node.name.clone().unwrap_or_else(number);
-    let drawn = format!("{}{name}", node.branch);
-    if drawn.chars().count() <= widest {
-        drawn
+    let name = node_name(node);
+    if is_drawn(node, widest) {
+        let room = widest.saturating_sub(node.branch.chars().count());
+        format!("{}{}", node.branch, shown(&name, room))
     } else {
-        cut(&format!("…depth {} {name}", node.depth), widest)
+        shown(&format!("…{} {name}", node.depth), widest)
     }
+}
+
+fn node_name(node: &Node) -> String {
+    let number = || node.row.entry.to_string();
+    node.name.clone().unwrap_or_else(number)
 }
 
 fn object_label(node: &Node) -> String {
@@ -97,7 +113,7 @@ struct Left {
 }
 
 impl Left {
-    fn of(picture: &Picture) -> Left {
+    fn of(picture: &Picture, width: usize) -> Left {
         let widest = |widths: &mut dyn Iterator<Item = usize>| widths.max().unwrap_or(0);
         let mut objects = picture
             .nodes
@@ -113,7 +129,7 @@ impl Left {
             .count()
             + 2
             + matrix;
-        let room = WIDEST.saturating_sub(without_tree);
+        let room = width.saturating_sub(without_tree);
         let mut trees = picture
             .nodes
             .iter()

@@ -1,7 +1,8 @@
 //! The words of a line, taken one after another.
 use super::names::{is_name, Declared, Operand, Space};
 use super::Bad;
-use skeinrabbit::{parse_number, ParseError};
+use crate::words::one_of;
+use skeinrabbit::{parse_number, Kind, ParseError, PortRights, Rights, Scopes, Table};
 use std::str::FromStr;
 
 /// The words of a call that were not yet taken.
@@ -54,8 +55,8 @@ impl<'a> Arguments<'a> {
         self.next().map_or(Ok(0), |word| number(word, "flags"))
     }
 
-    /// Something that is written as its type says.
-    pub fn value<T: FromStr<Err = ParseError>>(&mut self) -> Result<T, Bad> {
+    /// Something that is written by name.
+    pub fn value<T: Named>(&mut self) -> Result<T, Bad> {
         value(self.word()?)
     }
 
@@ -89,7 +90,8 @@ impl<'a> Arguments<'a> {
         }
         let noun = space.noun();
         let expected = if is_name(word) {
-            format!("the {noun}'s number, or a name that a line above binds to one")
+            let what = format!("the {noun}'s number, or a name that a line above binds to one");
+            one_of(&what, word, &self.declared.names(space))
         } else {
             format!("the {noun}'s number or name")
         };
@@ -105,8 +107,66 @@ pub fn number(word: &str, what: &str) -> Result<u64, Bad> {
     })
 }
 
-/// A word as something that is written as its type says.
-pub fn value<T: FromStr<Err = ParseError>>(word: &str) -> Result<T, Bad> {
-    word.parse()
-        .map_err(|error: ParseError| Bad::word(word, error.expected))
+/// What is written by name.
+pub trait Named: FromStr<Err = ParseError> {
+    /// What is expected where no name is found.
+    const WHAT: &'static str;
+
+    fn names() -> Vec<String>;
+}
+
+impl Named for Rights {
+    const WHAT: &'static str = "a number, none, or rights at files joined by +";
+
+    fn names() -> Vec<String> {
+        Rights::ALL.iter().map(|right| right.to_string()).collect()
+    }
+}
+
+impl Named for PortRights {
+    const WHAT: &'static str = "a number, none, or rights at ports joined by +";
+
+    fn names() -> Vec<String> {
+        let rights = PortRights::ALL.iter();
+        rights.map(|right| right.to_string()).collect()
+    }
+}
+
+impl Named for Scopes {
+    const WHAT: &'static str = "a number, none, or scopes joined by +";
+
+    fn names() -> Vec<String> {
+        Scopes::ALL.iter().map(|scope| scope.to_string()).collect()
+    }
+}
+
+impl Named for Kind {
+    const WHAT: &'static str = "a number or a kind";
+
+    fn names() -> Vec<String> {
+        let names = (1..=7).filter_map(|number| Kind::new(number).name());
+        names.map(str::to_owned).collect()
+    }
+}
+
+impl Named for Table {
+    const WHAT: &'static str = "a table";
+
+    fn names() -> Vec<String> {
+        let names = Table::ALL.into_iter().map(Table::name);
+        names.map(str::to_owned).collect()
+    }
+}
+
+/// A word as something that is written by name.
+pub fn value<T: Named>(word: &str) -> Result<T, Bad> {
+    word.parse().map_err(|_| {
+        let names = T::names();
+        let names: Vec<&str> = names.iter().map(String::as_str).collect();
+        let known = |part: &&str| names.iter().any(|name| name.eq_ignore_ascii_case(part));
+        // Of joined names, the one that is not known.
+        let mut parts = word.split('+').filter(|part| !part.is_empty());
+        let unknown = parts.find(|part| !known(part)).unwrap_or(word);
+        Bad::word(unknown, one_of(T::WHAT, unknown, &names))
+    })
 }

@@ -5,6 +5,7 @@ use super::call::{Call, Move, RulesetCall, ThreadCall, TreeCall};
 use super::names::Space;
 use super::poke::poke;
 use super::Bad;
+use crate::words::one_of;
 use skeinrabbit::{parse_number, Layer, Level};
 
 /// A call as it is written.
@@ -69,7 +70,7 @@ pub fn parse(arguments: &mut Arguments) -> Result<(&'static Form, Call), Bad> {
     };
     let Some(form) = FORMS.iter().find(|form| form.name() == name) else {
         let names: Vec<&str> = FORMS.iter().map(Form::name).collect();
-        return Err(Bad::word(name, format!("a call: {}", names.join(", "))));
+        return Err(Bad::word(name, one_of("a call", name, &names)));
     };
     arguments.set_usage(form.usage);
     let call = (form.read)(arguments)?;

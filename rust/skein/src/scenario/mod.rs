@@ -11,6 +11,7 @@ pub use answer::{Answer, Expected};
 pub use call::{Call, Masks, Move, RulesetBytes, RulesetCall, ThreadCall, TreeCall};
 pub use names::{Names, Operand, Space};
 
+use crate::words::quoted;
 use arguments::Arguments;
 use names::{is_name, Declared};
 
@@ -34,7 +35,21 @@ pub struct Statement {
     pub call: Call,
     /// The name to bind what the call makes to.
     pub binds: Option<(Space, String)>,
+    /// What the line says that the call must answer. Without it the call must succeed.
     pub expected: Option<Expected>,
+}
+
+impl Statement {
+    /// Whether an answer is one that the line allows.
+    pub fn allows(&self, answer: Answer) -> bool {
+        let expected = self.expected.unwrap_or(Expected::Success);
+        expected.is_met_by(answer)
+    }
+
+    /// Whether the line names an answer, or a kind of answer.
+    pub fn names_an_answer(&self) -> bool {
+        !matches!(self.expected, None | Some(Expected::Any))
+    }
 }
 
 /// A line that is not as the format asks.
@@ -59,24 +74,10 @@ impl Bad {
         }
     }
 
-    /// A word, quoted, with what is not printable escaped.
+    /// A word, quoted.
     pub fn word(word: &str, expected: impl Into<String>) -> Self {
         Self::new(quoted(word), expected)
     }
-}
-
-/// A word in quotes, cut where it is very long.
-fn quoted(word: &str) -> String {
-    const LONGEST: usize = 60;
-    let mut shown: String = word
-        .chars()
-        .take(LONGEST)
-        .flat_map(char::escape_debug)
-        .collect();
-    if word.chars().nth(LONGEST).is_some() {
-        shown.push_str("..");
-    }
-    format!("`{shown}`")
 }
 
 /// Reads a scenario; answers every line that is not as the format asks where there is one.
@@ -88,6 +89,10 @@ pub fn parse(bytes: &[u8]) -> Result<Scenario, Vec<BadLine>> {
         if let Err(bad) = reader.line(line, bytes) {
             bad_lines.push(BadLine { line, bad });
         }
+    }
+    if reader.statements.is_empty() && bad_lines.is_empty() {
+        let bad = Bad::new("no call", "at least one line with a call");
+        bad_lines.push(BadLine { line: 1, bad });
     }
     if bad_lines.is_empty() {
         Ok(Scenario {

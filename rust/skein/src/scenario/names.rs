@@ -10,6 +10,9 @@ pub enum Space {
     Thread,
 }
 
+/// The names that always have the same meaning, each in its space.
+const FIXED: [&str; 2] = ["root", "main"];
+
 impl Space {
     /// What the space's names stand for.
     pub fn noun(self) -> &'static str {
@@ -54,6 +57,18 @@ impl Declared {
 
     pub fn has(&self, space: Space, name: &str) -> bool {
         space.fixed(name).is_some() || self.0.contains(&(space, name.to_owned()))
+    }
+
+    /// Names of a space, for messages: not all where there are very many.
+    pub fn names(&self, space: Space) -> Vec<&str> {
+        const MOST: usize = 256;
+        let fixed = FIXED.into_iter().filter(|name| space.fixed(name).is_some());
+        let bound = self.0.range((space, String::new())..);
+        let bound = bound.take_while(|(of, _)| *of == space);
+        fixed
+            .chain(bound.map(|(_, name)| name.as_str()))
+            .take(MOST)
+            .collect()
     }
 }
 
@@ -100,8 +115,7 @@ impl Names {
 
     /// The name of a live entry, an open ruleset or a live thread.
     pub fn name(&self, space: Space, number: u64) -> Option<&str> {
-        let fixed = ["root", "main"];
-        if let Some(name) = fixed
+        if let Some(name) = FIXED
             .into_iter()
             .find(|name| space.fixed(name) == Some(number))
         {

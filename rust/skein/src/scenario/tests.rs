@@ -35,7 +35,19 @@ fn blanks_and_comments_are_skipped() {
         (only.line, only.text.as_str(), only.name),
         (4, "clone main", "clone")
     );
-    assert!(parse(b"").unwrap().statements.is_empty());
+}
+
+#[test]
+fn a_scenario_without_a_call_is_bad_input() {
+    for text in ["", "\n", "\r\n", "# only\n\n  \t# comments"] {
+        let none = (
+            1,
+            "no call".to_owned(),
+            "at least one line with a call".to_owned(),
+        );
+        assert_eq!(bad(text), [none], "{text:?}");
+    }
+    assert_eq!(bad("walk").len(), 1, "a bad line is reported alone");
 }
 
 #[test]
@@ -69,6 +81,9 @@ fn every_form_of_answer_is_read() {
     assert_eq!(expected("0"), Expected::Number(0));
     assert_eq!(expected("0x10"), Expected::Number(16));
     assert_eq!(expected("new 3"), Expected::New(3));
+    assert_eq!(expected("new"), Expected::Made);
+    assert_eq!(expected("ok"), Expected::Success);
+    assert_eq!(expected("any"), Expected::Any);
     assert_eq!(expected("EACCES"), Expected::Error(Errno::EACCES));
     assert_eq!(expected("-13"), Expected::Error(Errno::EACCES));
 }
@@ -84,6 +99,30 @@ fn answers_meet_what_is_expected() {
     assert!(!met("new 0", Answer::Done) && !met("5", Answer::Refused(Errno::EIO)));
     assert!(!met("EIO", Answer::New(5)) && !met("1", Answer::Done) && !met("4", Answer::New(5)));
     assert!(!met("18446744073709551611", Answer::Refused(Errno::EIO)));
+    for answer in [Answer::Done, Answer::New(0), Answer::New(5)] {
+        assert!(met("ok", answer) && met("any", answer), "{answer}");
+        assert_eq!(met("new", answer), answer != Answer::Done, "{answer}");
+    }
+    let refused = Answer::Refused(Errno::EIO);
+    assert!(met("any", refused) && !met("ok", refused) && !met("new", refused));
+}
+
+#[test]
+fn a_line_that_expects_nothing_allows_any_success() {
+    let plain = statement("clone main");
+    assert_eq!(plain.expected, None);
+    assert!(plain.allows(Answer::Done) && plain.allows(Answer::New(9)));
+    for errno in Errno::ALL {
+        assert!(!plain.allows(Answer::Refused(*errno)), "{errno}");
+    }
+    let names_an_answer = |answer: &str| {
+        let line = format!("clone main => {answer}");
+        statement(&line).names_an_answer()
+    };
+    assert!(!plain.names_an_answer() && !names_an_answer("any"));
+    for answer in ["ok", "new", "new 1", "0", "EIO"] {
+        assert!(names_an_answer(answer), "{answer}");
+    }
 }
 
 #[test]
@@ -264,12 +303,31 @@ const MISTAKES: &[(&str, &str, &str)] = &[
         "create_ruleset, clone, create or link",
     ),
     ("clone main =>", "nothing after `=>`", "an answer"),
-    ("clone main => new", "nothing after `new`", "a number"),
     ("clone main => new x", "`x`", "a number"),
     ("clone main => new 1 2", "`2`", "the end of the line"),
+    ("clone main => ok 1", "`1`", "the end of the line"),
+    ("clone main => any 1", "`1`", "the end of the line"),
     ("clone main => 0 -> x", "`->`", "the end of the line"),
-    ("clone main => EWHAT", "`EWHAT`", "an answer"),
-    ("access main root read", "`read`", "rights at files"),
+    (
+        "clone main => EWHAT",
+        "`EWHAT`",
+        "its name: EPERM, ENOENT, ",
+    ),
+    ("clone main => eaccess", "`eaccess`", "perhaps `EACCES`"),
+    ("acess main root 4", "`acess`", "a call: perhaps `access`"),
+    ("CLONE main", "`CLONE`", "a call: perhaps `clone`"),
+    ("clone mains", "`mains`", "binds to one: perhaps `main`"),
+    (
+        "access main root read",
+        "`read`",
+        "+: execute, write_file, read_file,",
+    ),
+    (
+        "access main root read_file+wirte_file",
+        "`wirte_file`",
+        "rights at files joined by +: perhaps `write_file`",
+    ),
+    ("access main root +", "`+`", "rights at files"),
     ("access main root bind_tcp", "`bind_tcp`", "rights at files"),
     ("port main 80 read_file", "`read_file`", "rights at ports"),
     ("port main http bind_tcp", "`http`", "a port: a number"),
@@ -278,7 +336,18 @@ const MISTAKES: &[(&str, &str, &str)] = &[
         "`18446744073709551616`",
         "below 2^64",
     ),
-    ("create main root pipe", "`pipe`", "a kind: regular"),
+    (
+        "create main root pipe",
+        "`pipe`",
+        "a kind: regular, directory",
+    ),
+    (
+        "create main root dirctory",
+        "`dirctory`",
+        "a kind: perhaps `directory`",
+    ),
+    ("poke thread 0 0", "`thread`", "a table: perhaps `threads`"),
+    ("poke names 0 0", "`names`", "a table: system, entries, "),
     ("set_admin main yes", "`yes`", "`on`, `off` or a number"),
     ("create_ruleset fs", "``", "rights at files"),
     ("create_ruleset hex", "`hex`", "fs=, net="),
@@ -328,147 +397,29 @@ fn bytes_that_are_not_text_are_bad_input() {
 
 #[test]
 fn long_words_are_cut_in_messages() {
-    let lines = bad(&"x".repeat(10_000));
-    assert!(lines[0].1.len() < 100);
+    let long = "x".repeat(10_000);
+    for line in [long.clone(), format!("clone main -> {long}\nclone y")] {
+        let lines = bad(&line);
+        let [(_, found, expected)] = lines.as_slice() else {
+            panic!("{lines:?}");
+        };
+        assert!(found.len() < 100 && expected.len() < 300, "{expected}");
+    }
     assert_eq!(bad("\u{1b}[2J")[0].1, "`\\u{1b}[2J`");
 }
 
-/// Numbers that look random and are the same each time.
-struct Noise(u64);
-
-impl Noise {
-    fn below(&mut self, bound: usize) -> usize {
-        self.0 = self
-            .0
-            .wrapping_mul(6364136223846793005)
-            .wrapping_add(1442695040888963407);
-        (self.0 >> 33) as usize % bound
-    }
-}
-
 #[test]
-fn any_bytes_are_read_or_refused() {
-    let mut noise = Noise(1);
-    for _ in 0..3000 {
-        let length = noise.below(200);
-        let bytes: Vec<u8> = (0..length).map(|_| noise.below(256) as u8).collect();
-        let _ = parse(&bytes);
+fn of_many_names_only_some_are_looked_at() {
+    let mut text = String::new();
+    for number in 0..1000 {
+        text.push_str(&format!("clone main -> name{number:04}\n"));
     }
-}
-
-/// Words that lines are made of.
-const WORDS: &[&str] = &[
-    "fresh",
-    "create_ruleset",
-    "close_ruleset",
-    "add_path_rule",
-    "add_port_rule",
-    "restrict",
-    "layer_rules",
-    "clone",
-    "set_no_new_privs",
-    "set_admin",
-    "access",
-    "port",
-    "create",
-    "remove",
-    "link",
-    "rename",
-    "exchange",
-    "poke",
-    "->",
-    "=>",
-    "new",
-    "main",
-    "root",
-    "x",
-    "0",
-    "1",
-    "6",
-    "0xffffffffffffffff",
-    "hex=",
-    "hex=04000000000000",
-    "fs=4",
-    "net=1",
-    "size=",
-    "size=18446744073709551615",
-    "flags=1",
-    "read_file",
-    "none",
-    "+",
-    "on",
-    "EIO",
-    "-5",
-    "#",
-    "threads",
-    "entries",
-    "directory",
-    "\u{0}",
-    "é",
-    "\n",
-    "\n",
-    "\n",
-];
-
-#[test]
-fn any_words_are_read_or_refused_and_played() {
-    let mut noise = Noise(2);
-    for _ in 0..300 {
-        let words: Vec<&str> = (0..noise.below(60))
-            .map(|_| WORDS[noise.below(WORDS.len())])
-            .collect();
-        if let Ok(scenario) = parse(words.join(" ").as_bytes()) {
-            crate::play::play(&scenario);
-        }
-    }
-    // Whole lines, so that most are read and reach the core.
-    for _ in 0..100 {
-        let lines: Vec<String> = (0..30).map(|_| line(&mut noise)).collect();
-        for line in &lines {
-            if let Ok(scenario) = parse(line.as_bytes()) {
-                crate::play::play(&scenario);
-            }
-        }
-    }
-}
-
-/// Calls with the number of their arguments.
-const CALLS: &[(&str, usize)] = &[
-    ("fresh", 1),
-    ("close_ruleset", 1),
-    ("add_path_rule", 4),
-    ("add_port_rule", 4),
-    ("restrict", 3),
-    ("layer_rules", 1),
-    ("clone", 1),
-    ("set_no_new_privs", 1),
-    ("set_admin", 2),
-    ("access", 3),
-    ("port", 3),
-    ("create", 3),
-    ("remove", 2),
-    ("link", 3),
-    ("rename", 4),
-    ("exchange", 4),
-    ("poke threads", 2),
-    ("poke threads", 5),
-];
-const NUMBERS: &[&str] = &[
-    "0",
-    "1",
-    "2",
-    "7",
-    "31",
-    "1024",
-    "0x8000000000000000",
-    "0xffffffffffffffff",
-];
-
-/// A call with arguments that are numbers.
-fn line(noise: &mut Noise) -> String {
-    let (call, count) = CALLS[noise.below(CALLS.len())];
-    let arguments: Vec<&str> = (0..count)
-        .map(|_| NUMBERS[noise.below(NUMBERS.len())])
-        .collect();
-    format!("{call} {}", arguments.join(" "))
+    let lines = bad(&format!("{text}clone other"));
+    assert!(lines[0].2.ends_with(", name0022, …"), "{}", lines[0].2);
+    let lines = bad(&format!("{text}clone nmae0007"));
+    assert!(
+        lines[0].2.ends_with(": perhaps `name0007`"),
+        "{}",
+        lines[0].2
+    );
 }

@@ -11,7 +11,7 @@ pub struct Ran {
     pub err: String,
 }
 
-fn ran(output: Output) -> Ran {
+pub fn ran(output: Output) -> Ran {
     Ran {
         code: output.status.code().expect("not ended by a signal"),
         out: String::from_utf8(output.stdout).expect("output is UTF-8"),
@@ -52,6 +52,11 @@ pub fn skein_with(words: &[&str], input: &[u8]) -> Ran {
     ran(output)
 }
 
+/// Messages without the breaks in their lines.
+pub fn unbroken(messages: &str) -> String {
+    messages.replace("\n    ", " ")
+}
+
 /// The path of an example.
 pub fn example(name: &str) -> String {
     let path = PathBuf::from(env!("CARGO_MANIFEST_DIR"))
@@ -60,11 +65,12 @@ pub fn example(name: &str) -> String {
     path.to_str().expect("a UTF-8 path").to_owned()
 }
 
-pub const EXAMPLES: [&str; 4] = [
+pub const EXAMPLES: [&str; 5] = [
     "tutorial.skein",
     "incident.skein",
     "worked.skein",
     "refusals.skein",
+    "together.skein",
 ];
 
 /// A file of its own for a test, removed afterwards.
