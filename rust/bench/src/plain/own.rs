@@ -1,7 +1,7 @@
 //! Verdicts over structures of its own, made from the cells once.
 
 use super::verdict::Move;
-use crate::landlock::{handled, EACCES, EXDEV, PATH_RULE, REFER};
+use crate::landlock::{handled, EACCES, EXDEV, PATH_RULE};
 use crate::tables::{Tables, ENTRY_WIDTH, LAYER_WIDTH, RULE_WIDTH, THREAD_WIDTH};
 use std::collections::HashMap;
 
