@@ -75,7 +75,7 @@ impl Model {
 /// Linux's own rule of REFER, which request W3 words otherwise.
 impl Model {
     /// How a call is answered if every layer of a domain handles REFER as soon as one of them has a
-    /// file system mask, as in Linux 6.12 and 6.18.
+    /// file system mask, as in Linux 6.18.
     pub fn answer_by_domain(&self, call: &Call) -> Answer {
         let mut model = self.clone();
         if let Some(thread) = judged_thread(call).and_then(|thread| self.threads.get(&thread)) {
