@@ -61,13 +61,7 @@ pub fn layer_missing(
 {
     let fs = Rights(row_read(layers, LAYER_WIDTH, l as usize, 1));
     let rules = layer_rules(layers, pool, l);
-    missing_up(
-        entries,
-        rules,
-        e,
-        asked.meet(handled_by(fs)),
-        MAX_ENTRIES,
-    )
+    missing_up(entries, rules, e, asked.meet(handled_by(fs)), MAX_ENTRIES)
 }
 
 // Of the rights asked for at a port, those that the layer denies.
