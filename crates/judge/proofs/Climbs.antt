@@ -8,12 +8,12 @@ use lib.Bits.{and-zero-l, xor-zero-l}
 use lib.Dec.{eqb}
 use borrow.Author.Tests.{eqb-true, eq-eqb, ne-eqb}
 use Rattle.access.specs.Limits.{maxEntries}
-use Rattle.access.specs.Rights.{has, join, meet, without, REFER}
+use Rattle.access.specs.Rights.{has, join, meet, without}
 use Rattle.access.proofs.Laws.{has-join, has-without, ext-has}
 use Rattle.tables.specs.Tables.{parent, portRule}
 use Rattle.tables.specs.Layers.{Layer}
 use Rattle.judge.specs.Rules.{rightsOn}
-use Rattle.judge.specs.Judge.{ownRights, grants, granted, handled, missing, portMissing}
+use Rattle.judge.specs.Judge.{ownRights, grants, granted, handledBy, handled, missing, portMissing}
 
 -- ---- rights taken away one set after the other
 pub without-none : (b : ℕ) → without 0 b ≡ 0
@@ -79,10 +79,10 @@ module _ (es rules : List ℕ) where
 
 -- ---- what code finds missing at a layer, from the answers on the way
 module _ (L : Layer) (m : ℕ) {rules : List ℕ} (q : rules ≡ L .rules) where
-  pub missing-is : (es : List ℕ) (e : ℕ) {fs some all r : ℕ} → fs ≡ L .fs → all ≡ join fs REFER → some ≡ meet m all → r ≡ without some (grants es rules maxEntries e) → r ≡ missing es L e m
+  pub missing-is : (es : List ℕ) (e : ℕ) {fs some all r : ℕ} → fs ≡ L .fs → all ≡ handledBy fs → some ≡ meet m all → r ≡ without some (grants es rules maxEntries e) → r ≡ missing es L e m
   unfolding missing handled granted
   missing-is es e a b c d =
-      d ∙ ap₂ without (c ∙ ap (meet m) (b ∙ ap (λ (x : ℕ). join x REFER) a)) (ap (λ (x : List ℕ). grants es x maxEntries e) q)
+      d ∙ ap₂ without (c ∙ ap (meet m) (b ∙ ap handledBy a)) (ap (λ (x : List ℕ). grants es x maxEntries e) q)
 
   pub port-missing-is : (port : ℕ) {net some own r : ℕ} → net ≡ L .net → some ≡ meet m net → own ≡ rightsOn rules portRule port → r ≡ without some own → r ≡ portMissing L port m
   unfolding portMissing

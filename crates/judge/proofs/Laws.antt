@@ -108,10 +108,12 @@ has-left : (m h g i : ℕ) → has (without (meet m h) g) i ≡ (has m i && (has
 has-left m h g i =
     has-without (meet m h) g i ∙ ap (λ (b : Bool). b && not (has g i)) (has-meet m h i) ∙ and-assoc (has m i) (has h i) (not (has g i))
 
--- "Every layer also handles REFER, asked or not"
-pub has-handled : (L : Layer) (i : ℕ) → has (handled L) i ≡ (has (L .fs) i || eqb i 13)
+-- "a layer handles REFER unasked only if its file system mask is not zero"
+pub has-handled : (L : Layer) (i : ℕ) → has (handled L) i ≡ (has (L .fs) i || (not (eqb (L .fs) 0) && eqb i 13))
 unfolding handled
-has-handled L i = has-join (L .fs) REFER i ∙ ap (λ (b : Bool). has (L .fs) i || b) (has-only 13 i)
+has-handled L i = split (eqb (L .fs) 0)
+    (λ q. let z = eqb-true (L .fs) 0 q in rw (q, z) (rw (has-none i)))
+    (λ q. rw q (has-join (L .fs) REFER i ∙ ap (λ (b : Bool). has (L .fs) i || b) (has-only 13 i)))
 
 module _ (es : List ℕ) (L : Layer) (e : ℕ) where
   -- "A layer denies a right if it handles it and doesn't grant it"

@@ -23,9 +23,12 @@ grants es rules (suc n) e = let r = grants es rules n (parent es e) in cond (eqb
 unfoldable pub granted : List ℕ → Layer → ℕ → ℕ
 granted es L e = grants es (L .rules) maxEntries e
 
--- "Every layer also handles REFER, asked or not"
+-- document 02, W3: "a layer handles REFER unasked only if its file system mask is not zero"
+abbrev pub handledBy : ℕ → ℕ
+handledBy fs = cond (eqb fs 0) 0 (join fs REFER)
+
 unfoldable pub handled : Layer → ℕ
-handled L = join (L .fs) REFER
+handled L = handledBy (L .fs)
 
 -- "A layer denies a right if it handles it and doesn't grant it"
 unfoldable pub denied : List ℕ → Layer → ℕ → ℕ

@@ -12,7 +12,7 @@ use tables::rows::parent_of;
 ghost use mathlib.Core.Path.{_≡_};
 ghost use Rattle.access.specs.Rights.{without};
 ghost use Rattle.tables.specs.Layers.{layerAt};
-ghost use Rattle.judge.specs.Judge.{ownRights, grants, missing, portMissing};
+ghost use Rattle.judge.specs.Judge.{ownRights, grants, handledBy, missing, portMissing};
 
 // The rights of the layer's rule on the entry's object.
 pub fn own_rights(entries: &[u64], rules: &[u64], e: u64) -> Rights
@@ -38,6 +38,16 @@ pub fn missing_up(entries: &[u64], rules: &[u64], e: u64, asked: Rights, left: u
     missing_up(entries, rules, parent_of(entries, e), rest, left - 1)
 }
 
+// The rights that a file system mask handles: REFER unasked, unless it is empty.
+fn handled_by(fs: Rights) -> Rights
+    ensures { λ r. ⌜ r .0 ≡ handledBy (fs .0) ⌝ }
+{
+    if fs.is_empty() {
+        return Rights::NONE;
+    }
+    fs.join(Rights::REFER)
+}
+
 // Of the rights asked for at an entry, those that the layer denies.
 pub fn layer_missing(
     entries: &[u64],
@@ -51,13 +61,7 @@ pub fn layer_missing(
 {
     let fs = Rights(row_read(layers, LAYER_WIDTH, l as usize, 1));
     let rules = layer_rules(layers, pool, l);
-    missing_up(
-        entries,
-        rules,
-        e,
-        asked.meet(fs.join(Rights::REFER)),
-        MAX_ENTRIES,
-    )
+    missing_up(entries, rules, e, asked.meet(handled_by(fs)), MAX_ENTRIES)
 }
 
 // Of the rights asked for at a port, those that the layer denies.

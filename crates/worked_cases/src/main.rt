@@ -1,4 +1,4 @@
-// The worked cases of document 01, each from fresh tables. The file `stdout` has the answers, written down from the document.
+// The worked cases of document 01, as request W3 amends them, each from fresh tables. The file `stdout` has the answers, written from these.
 mod play;
 mod stages;
 

@@ -35,6 +35,15 @@ pub const EINVAL: u64 = 22;
 pub const ENOSPC: u64 = 28;
 pub const ENOTEMPTY: u64 = 39;
 
+/// The rights that a layer handles, by the file system mask asked for.
+pub fn handled(fs: u64) -> u64 {
+    if fs == 0 {
+        0
+    } else {
+        fs | REFER
+    }
+}
+
 /// The right to make an entry of a known kind.
 pub fn make_right(kind: u64) -> u64 {
     // Regular, directory, character, block, fifo, socket, symlink.

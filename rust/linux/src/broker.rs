@@ -115,27 +115,4 @@ impl Broker {
     pub fn is_restricted(&self, thread: u64) -> bool {
         self.cell(Threads, thread, 1) != 0
     }
-
-    /// These tables without the layers that handle no file system right in any domain.
-    pub fn without_layers_without_fs(&self) -> Broker {
-        let mut broker = self.clone();
-        for thread in 0..MAX_THREADS as usize {
-            let cell = &mut broker.tables.of_mut(Threads)[thread * Threads.width() + 1];
-            *cell = self.nearest_with_fs(*cell);
-        }
-        for layer in 0..self.layers_used() as usize {
-            let cell = &mut broker.tables.of_mut(Layers)[layer * Layers.width()];
-            *cell = self.nearest_with_fs(*cell);
-        }
-        broker
-    }
-
-    /// The nearest layer that handles a file system right, from a layer on, both numbered from 1; 0 if there is none.
-    fn nearest_with_fs(&self, layer: u64) -> u64 {
-        if layer == 0 || self.cell(Layers, layer - 1, 1) != 0 {
-            layer
-        } else {
-            self.nearest_with_fs(self.cell(Layers, layer - 1, 0))
-        }
-    }
 }

@@ -1,4 +1,4 @@
-//! The classes of difference that document 01 decides otherwise than Linux, each with its sentence.
+//! The classes of difference that the papers decide otherwise than Linux, each with its sentence.
 
 use crate::broker::{Broker, MAX_LAYERS, MAX_POOL_RULES, MAX_RULES, MAX_THREADS};
 use crate::rights::*;
@@ -12,6 +12,8 @@ pub struct Answers<'a> {
     pub ours: i64,
     /// The independent model's answer, after the same calls.
     pub model: i64,
+    /// The same by Linux's own rule of REFER.
+    pub by_domain: i64,
     pub linux: i64,
 }
 
@@ -29,7 +31,7 @@ pub struct Class {
     pub name: &'static str,
     /// What Linux does.
     pub linux: &'static str,
-    /// Document 01's words that decide for us.
+    /// The words that decide for us: document 01's, or those of a request of document 02 that is named.
     pub paper: &'static str,
     /// Whether it explains answers that differ, successes among them as 0.
     applies: fn(&Answers) -> bool,
@@ -42,6 +44,7 @@ pub fn compare(answers: &Answers) -> Comparison {
     }
     let outcomes = Answers {
         ours: outcome(answers.ours),
+        by_domain: outcome(answers.by_domain),
         linux: outcome(answers.linux),
         ..*answers
     };
@@ -56,10 +59,10 @@ pub fn compare(answers: &Answers) -> Comparison {
 
 pub const CLASSES: [Class; 16] = [
     Class {
-        name: "refer-unasked",
-        linux: "a layer without file system rights does not handle REFER",
-        paper: "Every layer also handles REFER, asked or not (001, 002).",
-        applies: refer_unasked,
+        name: "refer-of-domain",
+        linux: "every layer of a domain handles REFER as soon as one of them has a file system mask",
+        paper: "W3: a layer handles REFER unasked only if its file system mask is not zero. Follow it.",
+        applies: refer_of_domain,
     },
     Class {
         name: "link-directory",
@@ -154,9 +157,9 @@ pub const CLASSES: [Class; 16] = [
     },
 ];
 
-/// Without the layers that handle no file system right, the tables would answer as Linux does.
-fn refer_unasked(d: &Answers) -> bool {
-    d.ours == -EXDEV && outcome(d.tables.without_layers_without_fs().ask(d.call)) == d.linux
+/// The model, which answers as we do, would answer as Linux does by Linux's rule.
+fn refer_of_domain(d: &Answers) -> bool {
+    d.linux == d.by_domain
 }
 
 fn link_directory(d: &Answers) -> bool {
@@ -328,6 +331,9 @@ mod tests {
     /// A thread without a layer, and one whose layer handles every right and grants none.
     const FREE: u64 = 0;
     const CONFINED: u64 = 1;
+    /// One whose layer is of network rights alone, and one that has such a layer above one that grants all that it handles.
+    const NETWORK: u64 = 2;
+    const MIXED: u64 = 3;
 
     /// The tree and the threads, on our side and on the model's.
     fn sides() -> (Broker, Model) {
@@ -337,23 +343,39 @@ mod tests {
             directory,
             kind,
         };
+        let create_ruleset = |masks: &[u64]| Call::CreateRuleset {
+            bytes: masks.iter().flat_map(|mask| mask.to_le_bytes()).collect(),
+            flags: 0,
+        };
+        let restrict = |thread, ruleset| Call::Restrict {
+            thread,
+            ruleset,
+            flags: 0,
+        };
+        let [all, net, _] = known(TOP_LEVEL);
         let calls = [
             create(0, DIRECTORY),
             create(UPPER, SYMLINK),
             create(UPPER, FIFO),
             create(UPPER, DIRECTORY),
             create(LOWER, REGULAR),
+            create_ruleset(&[all]),
+            create_ruleset(&[all]),
+            create_ruleset(&[0, net]),
+            Call::AddPathRule {
+                ruleset: 1,
+                entry: 0,
+                rights: all,
+                flags: 0,
+            },
+            Call::SetNoNewPrivs { thread: FREE },
             Call::Clone { thread: FREE },
-            Call::CreateRuleset {
-                bytes: known(TOP_LEVEL)[0].to_le_bytes().to_vec(),
-                flags: 0,
-            },
-            Call::SetNoNewPrivs { thread: CONFINED },
-            Call::Restrict {
-                thread: CONFINED,
-                ruleset: 0,
-                flags: 0,
-            },
+            Call::Clone { thread: FREE },
+            Call::Clone { thread: FREE },
+            restrict(CONFINED, 0),
+            restrict(NETWORK, 2),
+            restrict(MIXED, 1),
+            restrict(MIXED, 2),
         ];
         for call in &calls {
             assert!(tables.ask(call) >= 0, "{call:?}");
@@ -369,6 +391,7 @@ mod tests {
             tables: &tables,
             call,
             ours,
+            by_domain: returned(model.answer_by_domain(call)) as i64,
             model: returned(model.answer(call).0) as i64,
             linux,
         })
@@ -450,7 +473,44 @@ mod tests {
     #[test]
     fn another_new_number_is_unknown() {
         let call = Call::Clone { thread: FREE };
-        assert_eq!(compared(&call, 2, 0), Comparison::Agree);
-        assert_eq!(compared(&call, 3, 0), Comparison::Unknown);
+        assert_eq!(compared(&call, 4, 0), Comparison::Agree);
+        assert_eq!(compared(&call, 5, 0), Comparison::Unknown);
+    }
+
+    /// The file to a directory.
+    fn moved(thread: u64, directory: u64) -> Call {
+        Call::Rename {
+            thread,
+            source: FILE,
+            directory,
+            replaces: 0,
+            entry: 0,
+        }
+    }
+
+    #[test]
+    fn refer_of_domain_is_of_the_class() {
+        let answers = compared(&moved(MIXED, UPPER), 0, -EXDEV);
+        assert_eq!(answers, class("refer-of-domain"));
+        assert_eq!(compared(&moved(NETWORK, UPPER), 0, 0), Comparison::Agree);
+    }
+
+    /// Where Linux's rule gives another answer than Linux, or ours is not the model's, even if it is Linux's.
+    #[test]
+    fn a_wrong_verdict_on_refer_is_unknown() {
+        let wrong = [
+            (moved(MIXED, UPPER), 0, -EACCES),
+            (moved(MIXED, UPPER), -EXDEV, -EXDEV),
+            (moved(MIXED, UPPER), -EXDEV, 0),
+            (moved(MIXED, LOWER), 0, -EXDEV),
+            (moved(NETWORK, UPPER), 0, -EXDEV),
+            (moved(NETWORK, UPPER), -EXDEV, -EXDEV),
+            (moved(NETWORK, UPPER), -EXDEV, 0),
+            (moved(FREE, UPPER), 0, -EXDEV),
+        ];
+        for (call, ours, linux) in wrong {
+            let answers = compared(&call, ours, linux);
+            assert_eq!(answers, Comparison::Unknown, "{call:?} {ours} {linux}");
+        }
     }
 }

@@ -276,8 +276,10 @@ impl Generator<'_> {
     pub fn create_ruleset(&mut self) -> Call {
         let [fs, net, scope] = known(self.tables.level());
         let masks = match self.random.below(100) {
-            0..3 => [0, self.subset(net), self.subset(scope)],
-            3..60 => [self.subset(fs), 0, 0],
+            0..3 => [0, self.subset(net), 0],
+            3..6 => [0, 0, self.subset(scope)],
+            6..8 => [0, self.subset(net), self.subset(scope)],
+            8..60 => [self.subset(fs), 0, 0],
             60..95 => [self.subset(fs), self.subset(net), self.subset(scope)],
             _ => [fs, net, scope].map(|mask| self.subset(mask) | self.unknown_bit(mask)),
         };

@@ -128,6 +128,7 @@ impl<'a> Scenario<'a> {
     pub fn ask(&mut self, call: Call) -> Result<(), Stop> {
         let before = self.tables.clone();
         let ours = self.tables.ask(&call);
+        let by_domain = returned(self.model.answer_by_domain(&call)) as i64;
         let model = returned(self.model.answer(&call).0) as i64;
         let (operation, linux) = self.kernel.perform(&before, &call);
         self.lines.push(format!(
@@ -142,6 +143,7 @@ impl<'a> Scenario<'a> {
             call: &call,
             ours,
             model,
+            by_domain,
             linux,
         };
         match compare(&answers) {

@@ -65,7 +65,7 @@ impl Tally {
             let of_class = self.differed.iter().filter(|(key, _)| key.0 == place);
             let total: u64 = of_class.clone().map(|(_, count)| count).sum();
             println!("  {:<23} {total:>6}   Linux: {}", class.name, class.linux);
-            println!("  {:<23} {:>6}   document 01: \"{}\"", "", "", class.paper);
+            println!("  {:<23} {:>6}   decided by \"{}\"", "", "", class.paper);
             for (&(_, call, linux, ours), count) in of_class {
                 println!(
                     "  {:<23} {count:>6}   {call}: Linux {}, ours {}",

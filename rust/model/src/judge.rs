@@ -1,5 +1,6 @@
 //! How requests are judged: what the layers of a domain deny at an entry or a port.
 
+use crate::call::Call;
 use crate::refusal::{Answer, Refusal};
 use crate::rights::Rights;
 use crate::state::{Key, Layer, Model, MAX_PORT};
@@ -68,6 +69,40 @@ impl Model {
                 .without(own)
                 .within(self.denied(layer, to))
         })
+    }
+}
+
+/// Linux's own rule of REFER, which request W3 words otherwise.
+impl Model {
+    /// How a call is answered if every layer of a domain handles REFER as soon as one of them has a
+    /// file system mask, as in Linux 6.18.
+    pub fn answer_by_domain(&self, call: &Call) -> Answer {
+        let mut model = self.clone();
+        if let Some(thread) = judged_thread(call).and_then(|thread| self.threads.get(&thread)) {
+            model.handle_refer(self.domain(thread.youngest));
+        }
+        model.answer(call).0
+    }
+
+    fn handle_refer(&mut self, domain: Vec<usize>) {
+        let has_fs = |number: &usize| !self.layers[*number].masks.fs.is_empty();
+        if domain.iter().any(has_fs) {
+            for number in domain {
+                let fs = &mut self.layers[number].masks.fs;
+                *fs = fs.join(Rights::REFER);
+            }
+        }
+    }
+}
+
+/// The thread of a call that may be refused for REFER.
+fn judged_thread(call: &Call) -> Option<u64> {
+    match *call {
+        Call::Access { thread, .. }
+        | Call::Link { thread, .. }
+        | Call::Rename { thread, .. }
+        | Call::Exchange { thread, .. } => Some(thread),
+        _ => None,
     }
 }
 

@@ -1,5 +1,5 @@
-//! An independent program that answers as document 01 says, written from the paper alone, and the
-//! means to compare it with another broker over the same tables.
+//! An independent program that answers as document 01 and the requests of document 02 say, written
+//! from the papers alone, and the means to compare it with another broker over the same tables.
 //!
 //! The model is [`state`] with the calls in [`rulesets`], [`threads`], [`judge`] and [`tree`];
 //! [`tables`] and [`sound`] convert between it and cells. The comparison is [`compare`], fed by

@@ -247,17 +247,13 @@ fn stack_layers(model: &mut Model, random: &mut Random) {
 }
 
 /// A chain of layers that grant almost everything everywhere, so that moves between directories are
-/// decided by the few rights that some directories or files get in addition.
+/// decided by the few rights that some directories or files get in addition, and by whether a layer
+/// without a file system mask handles REFER.
 fn stack_uneven_layers(model: &mut Model, random: &mut Random) {
     let entries: Vec<Entry> = model.entries.values().copied().collect();
-    let known = Masks::known(model.level).fs;
     for number in 0..random.between(1, 3) as usize {
-        let fs = if random.chance(50) {
-            known
-        } else {
-            Rights(random.bits_of(known.0) | Rights::WRITE_FILE.0)
-        };
-        let fs = fs.join(Rights::REFER).common(known);
+        let masks = uneven_masks(model.level, random);
+        let fs = masks.fs;
         let bits = [0, 1, 2, 3, 14, random.below(13)];
         let uneven = Rights(1 << random.pick(&bits) | 1 << random.pick(&bits));
         let mut rules = Rules::default();
@@ -271,18 +267,32 @@ fn stack_uneven_layers(model: &mut Model, random: &mut Random) {
         for _ in 0..random.between(1, 8) {
             add(random.pick(&entries), fs.common(uneven));
         }
-        let net = Rights::NONE;
         model.layers.push(Layer {
             parent: number.checked_sub(1),
-            masks: Masks {
-                fs,
-                net,
-                scope: net,
-            },
+            masks,
             rules,
             place: 0,
         });
     }
+}
+
+/// Masks of file system rights, mostly many and REFER among them; or of the network or scopes alone.
+fn uneven_masks(level: u64, random: &mut Random) -> Masks {
+    let known = Masks::known(level);
+    let none = Masks::default();
+    let (net, scope) = (known.net, known.scope);
+    match random.below(8) {
+        0 if !net.is_empty() => return Masks { net, ..none },
+        1 if !scope.is_empty() => return Masks { scope, ..none },
+        _ => {}
+    }
+    let fs = if random.chance(50) {
+        known.fs
+    } else {
+        Rights(random.bits_of(known.fs.0) | Rights::WRITE_FILE.0)
+    };
+    let fs = fs.join(Rights::REFER).common(known.fs);
+    Masks { fs, ..none }
 }
 
 /// Gives the layers their places in the pool, in order or not, with gaps or without.

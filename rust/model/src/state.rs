@@ -159,9 +159,14 @@ pub struct Layer {
 }
 
 impl Layer {
-    /// The file system rights it handles: those asked for, and REFER.
+    /// The file system rights it handles: those asked for, and with any of them REFER.
     pub fn handled(&self) -> Rights {
-        self.masks.fs.join(Rights::REFER)
+        let asked = self.masks.fs;
+        if asked.is_empty() {
+            Rights::NONE
+        } else {
+            asked.join(Rights::REFER)
+        }
     }
 }
 

@@ -3,7 +3,8 @@
 use model::call::{Broker, Call, Reply, UNWRITTEN};
 use model::compare::{compare, sweep, Case, Difference, Options, Step};
 use model::reference::Rereading;
-use model::refusal::Refusal;
+use model::refusal::{Errno, Refusal};
+use model::rights::{Masks, Rights};
 use model::scenario::scenario;
 use model::shrink::shrink;
 use model::sound::{check, Unsound};
@@ -53,6 +54,88 @@ fn a_missing_containment_is_found() {
     assert_eq!(case.start.layers.len(), 1, "{text}");
     assert!(case.start.entries.len() <= 5, "{text}");
     assert!(text.contains("=> EXDEV\n"), "{text}");
+}
+
+/// Lets layers without a file system mask handle REFER where their masks are of a sort.
+struct ReferWithoutFs(fn(&Masks) -> bool);
+
+impl Broker for ReferWithoutFs {
+    fn answer(&mut self, tables: &mut Tables, call: &Call) -> Reply {
+        let Ok(mut model) = check(tables) else {
+            return Rereading.answer(tables, call);
+        };
+        let all = 0..model.layers.len();
+        let wrong = |number: &usize| {
+            let masks = &model.layers[*number].masks;
+            masks.fs.is_empty() && (self.0)(masks)
+        };
+        let wrong: Vec<usize> = all.filter(wrong).collect();
+        for number in &wrong {
+            model.layers[*number].masks.fs = Rights::REFER;
+        }
+        let (answer, report) = model.answer(call);
+        for layer in wrong {
+            if let Some(layer) = model.layers.get_mut(layer) {
+                layer.masks.fs = Rights::NONE;
+            }
+        }
+        encode_into(&model, tables);
+        Reply::of(answer, report)
+    }
+}
+
+/// A case of one call, which the broker refuses for REFER.
+fn found_refused_for_refer<B: Broker>(broker: &mut B) -> (Case, String) {
+    let (case, difference) = found(broker);
+    let text = scenario(&case, &difference);
+    assert_eq!(case.steps.len(), 1, "{text}");
+    let refused = [Errno::EACCES, Errno::EXDEV].map(Errno::returned);
+    assert!(refused.contains(&difference.broker.number), "{text}");
+    (case, text)
+}
+
+/// Before request W3 every layer handled REFER; as each has a mask that is not zero, this is also
+/// the fault of looking at any mask.
+#[test]
+fn refer_of_every_layer_is_found() {
+    let (case, text) = found_refused_for_refer(&mut ReferWithoutFs(|_| true));
+    assert_eq!(case.start.layers.len(), 1, "{text}");
+}
+
+#[test]
+fn refer_of_a_network_mask_is_found() {
+    let net = |masks: &Masks| !masks.net.is_empty();
+    let (case, text) = found_refused_for_refer(&mut ReferWithoutFs(net));
+    assert_eq!(case.start.layers.len(), 1, "{text}");
+}
+
+#[test]
+fn refer_of_a_scope_mask_is_found() {
+    let scope = |masks: &Masks| !masks.scope.is_empty();
+    let (case, text) = found_refused_for_refer(&mut ReferWithoutFs(scope));
+    assert_eq!(case.start.layers.len(), 1, "{text}");
+}
+
+/// Lets every layer handle REFER as soon as one of its domain has a file system mask.
+struct ReferByDomain;
+
+impl Broker for ReferByDomain {
+    fn answer(&mut self, tables: &mut Tables, call: &Call) -> Reply {
+        if let Ok(model) = check(tables) {
+            if let Err(refusal @ (Refusal::AccessDenied | Refusal::ReferDenied)) =
+                model.answer_by_domain(call)
+            {
+                return Reply::of(Err(refusal), Vec::new());
+            }
+        }
+        Rereading.answer(tables, call)
+    }
+}
+
+#[test]
+fn refer_by_domain_is_found() {
+    let (case, text) = found_refused_for_refer(&mut ReferByDomain);
+    assert_eq!(case.start.layers.len(), 2, "{text}");
 }
 
 /// Clones without the admin mark.

@@ -306,6 +306,8 @@ fn link_order() {
     let mut uneven = uneven(2);
     fill_tree(&mut uneven);
     refused(&uneven, link(0, 3, 2), NotContained);
+    deny(&mut model, Rights::NONE);
+    refused(&model, link(0, 3, 2), NoFreeEntry);
     deny(&mut model, Rights::EXECUTE);
     refused(&model, link(0, 3, 2), ReferDenied);
     deny(&mut model, Rights::MAKE_REG);
@@ -336,6 +338,8 @@ fn rename_order() {
     refused(&model, rename(0, 3, 2, Some(5)), FileOverDirectory);
     refused(&model, rename(0, 6, 2, Some(5)), FileOverDirectory);
     refused(&model, rename(0, 1, 2, Some(5)), DirectoryNotEmpty);
+    deny(&mut model, Rights::NONE);
+    refused(&model, rename(0, 1, 2, Some(4)), DirectoryOverFile);
     deny(&mut model, Rights::EXECUTE);
     refused(&model, rename(0, 1, 2, Some(4)), ReferDenied);
     deny(&mut model, Rights::REMOVE_FILE);

@@ -174,6 +174,21 @@ clone main -> t
     assert!(ran.out.contains("thread t: no layer"));
 }
 
+/// The rights that some layer handles: a layer handles REFER unasked only with other rights of the file system.
+#[test]
+fn a_layer_of_ports_alone_handles_no_right_of_the_file_system() {
+    for (masks, handled) in [
+        ("net=bind_tcp", vec![]),
+        ("scope=signal", vec![]),
+        ("fs=read_file", vec!["read_file", "refer"]),
+    ] {
+        let text =
+            format!("create_ruleset {masks} -> rs\nset_no_new_privs main\nrestrict main rs\n");
+        let document = json(&skein_with(&["explain", "--json", "-"], text.as_bytes()).out);
+        assert_eq!(document.at("rights").texts(), handled, "{masks}");
+    }
+}
+
 /// What `explain` says a thread may do must be what the calls of `run` answer.
 #[test]
 fn pictures_agree_with_the_calls() {

@@ -165,7 +165,7 @@ set! {
     MAKE_BLOCK = 11, "make_block";
     /// Make a symbolic link.
     MAKE_SYM = 12, "make_sym";
-    /// Link or move to another directory. Every layer handles it, asked or not.
+    /// Link or move to another directory. A layer handles it, asked or not, unless it handles nothing of the file system.
     REFER = 13, "refer";
     /// Truncate a file.
     TRUNCATE = 14, "truncate";

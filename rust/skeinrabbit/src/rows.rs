@@ -38,7 +38,7 @@ pub struct LayerRow {
     pub layer: Layer,
     /// The layer below it.
     pub parent: Option<Layer>,
-    /// What it was asked to handle; it handles REFER in any case.
+    /// What it was asked to handle; it handles REFER too, unless it was asked for nothing of the file system.
     pub attribute: Attribute,
 }
 

@@ -1,7 +1,7 @@
 //! Verdicts over structures of its own, made from the cells once.
 
 use super::verdict::Move;
-use crate::landlock::{EACCES, EXDEV, PATH_RULE, REFER};
+use crate::landlock::{handled, EACCES, EXDEV, PATH_RULE};
 use crate::tables::{Tables, ENTRY_WIDTH, LAYER_WIDTH, RULE_WIDTH, THREAD_WIDTH};
 use std::collections::HashMap;
 
@@ -104,7 +104,7 @@ fn layer(tables: &Tables, row: &[u64]) -> Layer {
     let rules = &tables.pool[RULE_WIDTH * row[4] as usize..][..RULE_WIDTH * row[5] as usize];
     let rules = rules.chunks_exact(RULE_WIDTH);
     Layer {
-        handled: row[1] | REFER,
+        handled: handled(row[1]),
         rules: rules
             .filter(|rule| rule[0] == PATH_RULE)
             .map(|rule| (rule[1], rule[2]))

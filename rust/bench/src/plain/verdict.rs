@@ -1,6 +1,8 @@
 //! Verdicts over the cells. The tables are sound and the numbers name live things.
 
-use crate::landlock::{held_rights, make_right, remove_right, EACCES, EXDEV, PATH_RULE, REFER};
+use crate::landlock::{
+    handled, held_rights, make_right, remove_right, EACCES, EXDEV, PATH_RULE, REFER,
+};
 use crate::tables::{Tables, ENTRY_WIDTH, LAYER_WIDTH, RULE_WIDTH};
 
 /// The rights that the rules give an object.
@@ -47,7 +49,7 @@ fn domain(tables: &Tables, youngest: u64) -> impl Iterator<Item = Layer<'_>> {
         above = row[0];
         let rules = &tables.pool[RULE_WIDTH * row[4] as usize..];
         Some(Layer {
-            handled: row[1] | REFER,
+            handled: handled(row[1]),
             rules: &rules[..RULE_WIDTH * row[5] as usize],
         })
     })

@@ -102,9 +102,11 @@ impl Picture {
 
 /// The rights that some layer handles, REFER among them where there is a layer.
 fn handled(tables: &Tables) -> Rights {
-    tables.layers().fold(Rights::NONE, |rights, row| {
-        rights | row.attribute.fs | Rights::REFER
-    })
+    tables
+        .layers()
+        .map(|row| row.attribute.fs)
+        .filter(|fs| !fs.is_empty())
+        .fold(Rights::NONE, |rights, fs| rights | fs | Rights::REFER)
 }
 
 fn domain(tables: &Tables, thread: Thread) -> Vec<Layer> {
