@@ -110,6 +110,14 @@ allNet = 2 ^ netRights - 1
 abbrev pub fileSet : ℕ
 fileSet = join EXECUTE (join WRITE_FILE (join READ_FILE (join TRUNCATE IOCTL_DEV)))
 
+-- the rights to make, remove or link an entry: "REMOVE, MAKE or REFER"
+abbrev pub treeSet : ℕ
+treeSet = join REMOVE_DIR (join REMOVE_FILE (join MAKE_CHAR (join MAKE_DIR (join MAKE_REG (join MAKE_SOCK (join MAKE_FIFO (join MAKE_BLOCK (join MAKE_SYM REFER))))))))
+
+-- the write set of document 02, W6: "any of WRITE_FILE, TRUNCATE, REMOVE, MAKE or REFER"
+abbrev pub writeSet : ℕ
+writeSet = join WRITE_FILE (join TRUNCATE treeSet)
+
 -- what a level adds from level n on
 abbrev pub since : ℕ → ℕ → ℕ → ℕ
 since n level m = cond (leb n level) m 0

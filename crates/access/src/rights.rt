@@ -59,6 +59,9 @@ impl Rights {
     // The file set: what can be asked of an entry that is no directory.
     pub const FILE: Rights = Rights(49159);
 
+    // The write set: what no rule can grant at the root.
+    pub const WRITE: Rights = Rights(32754);
+
     // The rights that each level knows.
     pub const FS_LEVEL_0: Rights = Rights(0);
 
