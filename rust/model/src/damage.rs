@@ -1,7 +1,7 @@
 //! Random damage to the cells of sound tables.
 
 use crate::random::Random;
-use crate::state::{Model, MAX_RULES};
+use crate::state::{Model, MAX_DOMAIN, MAX_RULES};
 use crate::tables::{Table, Tables, RULESET_HEAD, RULE_WIDTH};
 
 /// A change of one cell.
@@ -106,8 +106,7 @@ fn renamed_cell(model: &Model, tables: &Tables, random: &mut Random) -> Poke {
         }
         1 => {
             let row = row_in_use(Table::Threads, model, random);
-            let deep = random.below(4).min(model.layers.len() as u64);
-            (Table::Threads, row, 1, model.layers.len() as u64 - deep)
+            (Table::Threads, row, 1, deep_layer(model, random))
         }
         2 => {
             let row = rule_in_use(2, model, tables, random);
@@ -121,6 +120,22 @@ fn renamed_cell(model: &Model, tables: &Tables, random: &mut Random) -> Poke {
     };
     let cell = table.width() * row + column;
     Poke { table, cell, value }
+}
+
+/// A layer with too many below it, where there is one, or one of the last: its number plus 1, or 0
+/// for none.
+fn deep_layer(model: &Model, random: &mut Random) -> u64 {
+    let mut depths: Vec<usize> = Vec::new();
+    for layer in &model.layers {
+        let below = layer.parent.map_or(0, |parent| depths[parent]);
+        depths.push(below + 1);
+    }
+    let layers = (1..).zip(depths);
+    let too_deep = layers.filter(|(_, depth)| *depth > MAX_DOMAIN);
+    let too_deep: Vec<u64> = too_deep.map(|(number, _)| number).collect();
+    let all = model.layers.len() as u64;
+    let last = all - random.below(4).min(all);
+    random.pick_some(&too_deep).unwrap_or(last)
 }
 
 /// A pool place with a rule of a type, if there is one.
