@@ -20,7 +20,7 @@
  * - The number of a removed entry or a closed ruleset is given out again, lowest first, and after skeinrabbit_fresh every number
  *   is: a number that is kept too long names something else. Numbers are no secrets: whoever may name any thread may do what any
  *   thread may.
- * - The tables are shared and small: 1,024 entries, 16 rulesets, 64 layers, 1,024 rules of layers, 8 threads. A plug-in that may
+ * - The tables are shared and small: 1,024 entries, 16 rulesets, 256 layers, 1,024 rules of layers, 8 threads. A plug-in that may
  *   create, or reach skeinrabbit_clone, can fill them for all.
  * - That a sandbox cannot widen itself is said of one domain and those grown from it (docs/THEOREMS.md). Two plug-ins, each with
  *   a safe policy of its own, may do together what neither may do alone: examples/together.skein.
@@ -40,8 +40,8 @@ extern "C" {
 #define SKEIN_MAX_ENTRIES 1024
 #define SKEIN_MAX_RULESETS 16
 #define SKEIN_MAX_RULES 64 /* in one ruleset */
-#define SKEIN_MAX_LAYERS 64
-#define SKEIN_MAX_DOMAIN_LAYERS 16 /* in one thread's domain */
+#define SKEIN_MAX_LAYERS 256
+#define SKEIN_MAX_DOMAIN_LAYERS 64 /* in one thread's domain */
 #define SKEIN_MAX_POOL_RULES 1024
 #define SKEIN_MAX_THREADS 8
 #define SKEIN_MAX_ATTR_SIZE 4096
@@ -252,7 +252,7 @@ static inline int64_t skeinrabbit_add_port_rule(struct skein_tables *t, uint64_t
 /*
  * Gives a thread one more layer, a copy of the ruleset at this moment.
  * ESRCH thread not live; EOPNOTSUPP level 0; EPERM neither no_new_privs nor admin; EINVAL flags not 0; EBADF ruleset not open;
- * E2BIG 16 layers already; ENOMEM no layer record or too few pool rules left.
+ * E2BIG 64 layers already; ENOMEM no layer record or too few pool rules left.
  */
 static inline int64_t skeinrabbit_restrict(struct skein_tables *t, uint64_t thread, uint64_t ruleset, uint64_t flags)
 {

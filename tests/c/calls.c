@@ -80,11 +80,29 @@ static void tree_calls(struct skein_tables *t)
 	expect("remove", skeinrabbit_remove(t, 0, 4), 0);
 }
 
+/* The limits that the header names, on fresh tables. */
+static void limits(struct skein_tables *t)
+{
+	const struct skein_ruleset_attr attr = { SKEIN_FS_EXECUTE, 0, 0 };
+	uint64_t thread, layer;
+
+	expect("fresh", skeinrabbit_fresh(t, SKEIN_MAX_LEVEL), 0);
+	expect("set_no_new_privs", skeinrabbit_set_no_new_privs(t, 0), 0);
+	expect("create_ruleset", skeinrabbit_create_ruleset(t, &attr, sizeof(attr), 0), 0);
+	for (thread = 0; thread < SKEIN_MAX_LAYERS / SKEIN_MAX_DOMAIN_LAYERS; thread++) {
+		expect("clone", skeinrabbit_clone(t, 0), (int64_t)thread + 1);
+		for (layer = 0; layer < SKEIN_MAX_DOMAIN_LAYERS; layer++)
+			expect("restrict", skeinrabbit_restrict(t, thread + 1, 0, 0), 0);
+		expect("restrict, 64 layers", skeinrabbit_restrict(t, thread + 1, 0, 0), -SKEIN_E2BIG);
+	}
+	expect("restrict, no layer record", skeinrabbit_restrict(t, 0, 0, 0), -SKEIN_ENOMEM);
+}
+
 int main(void)
 {
 	struct skein_tables *const t = &tables;
 
-	expect("bytes of the tables", (int64_t)sizeof(*t), 77600);
+	expect("bytes of the tables", (int64_t)sizeof(*t), 86816);
 	expect("access, tables of zeros", skeinrabbit_access(t, 0, SKEIN_ROOT, SKEIN_FS_READ_FILE), -SKEIN_EIO);
 	expect("create_ruleset, tables of zeros", skeinrabbit_create_ruleset(t, NULL, 24, 0), -SKEIN_EIO);
 	expect("fresh, level 7", skeinrabbit_fresh(t, SKEIN_MAX_LEVEL + 1), -SKEIN_EINVAL);
@@ -98,5 +116,6 @@ int main(void)
 	domain_calls(t);
 	requests(t);
 	tree_calls(t);
+	limits(t);
 	return differences == 0 ? 0 : 1;
 }

@@ -1,4 +1,4 @@
--- Document 01: the limits, one name each.
+-- The limits of document 01, as document 02 raises two of them, one name each.
 use Prim.Native.Nat.{ℕ}
 
 -- "Level": 0 (Landlock disabled) to 6
@@ -17,9 +17,9 @@ maxRulesets = 16
 abbrev pub maxRules : ℕ
 maxRules = 64
 
--- "Layers, at most 64"
+-- document 02, W5: "the layer records to 256"
 abbrev pub maxLayers : ℕ
-maxLayers = 64
+maxLayers = 256
 
 -- "the shared rule pool of 1,024 rules"
 abbrev pub maxPool : ℕ
@@ -29,9 +29,9 @@ maxPool = 1024
 abbrev pub maxThreads : ℕ
 maxThreads = 8
 
--- "the thread's domain, at most 16 layers"
+-- document 02, W5: "the domain limit to 64"
 abbrev pub maxDomain : ℕ
-maxDomain = 16
+maxDomain = 64
 
 -- "Object numbers go up to 4,294,967,295": the counter of the next one ends one above it
 abbrev pub maxCounter : ℕ

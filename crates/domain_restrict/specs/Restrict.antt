@@ -28,7 +28,7 @@ restrictForm sys ts t flags =
     ∷ not (eqb flags 0) ⇒ EINVAL
     ∷ []
 
--- "16 layers already"
+-- "16 layers already"; document 02, W5: 64
 unfoldable pub isDeep : List ℕ → List ℕ → ℕ → Bool
 isDeep ls ts t = leb maxDomain (length (domain ls ts t))
 
@@ -36,7 +36,7 @@ isDeep ls ts t = leb maxDomain (length (domain ls ts t))
 unfoldable pub noRoom : List ℕ → List ℕ → ℕ → Bool
 noRoom sys rs r = leb maxLayers (layersUsed sys) || ltb maxPool (poolUsed sys + rulesetCount rs r)
 
--- "ruleset not open EBADF; 16 layers already E2BIG; no layer record or too few free pool rules ENOMEM"
+-- "ruleset not open EBADF; 16 layers already E2BIG (64 by W5); no layer record or too few free pool rules ENOMEM"
 unfoldable pub restrictRoom : Tables → ℕ → ℕ → List Check
 restrictRoom T t r =
     not (isOpen (T .rulesets) r) ⇒ EBADF

@@ -17,7 +17,7 @@ pub record LiveThread (ls ts : List ℕ) (used t : ℕ) : Type 0 where
   -- "marks .. are in range"
   pub privs-mark : noNewPrivs ts t ≤ 1
   pub admin-mark : admin ts t ≤ 1
-  -- "domains have at most 16 layers"
+  -- "domains have at most 16 layers"; document 02, W5: 64
   pub domain : chainEnds ls maxDomain (youngest ts t) ≡ true
 
 -- "free space is zero"

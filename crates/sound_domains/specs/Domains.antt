@@ -17,7 +17,7 @@ chainEnds ls (suc n) y = let r = chainEnds ls n (layerParent ls (y - 1)) in cond
 abbrev pub youngestInUse : List ℕ → ℕ → ℕ → Bool
 youngestInUse ts used t = leb (youngest ts t) used
 
--- "domains have at most 16 layers"
+-- "domains have at most 16 layers"; document 02, W5: 64
 abbrev pub domainFits : List ℕ → List ℕ → ℕ → Bool
 domainFits ls ts t = chainEnds ls maxDomain (youngest ts t)
 

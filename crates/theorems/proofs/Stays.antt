@@ -2,7 +2,7 @@
 use mathlib.Core.Path.{_≡_, refl, ap, _∙_}
 use mathlib.Core.Bool.{true, not}
 use mathlib.Core.List.{List, [], _∷_}
-use Prim.Native.Nat.{ℕ, _+_, _*_, _≤_, _<_}
+use Prim.Native.Nat.{ℕ, pred, _+_, _*_, _≤_, _<_}
 use native.Mathlib.Numerals.{add-one}
 use native.Mathlib.Omega.{arith}
 use lib.Dec.{eqb, ltb}
@@ -162,7 +162,7 @@ module _ (T : Tables) (t r : ℕ) (S : Sound T) (A : Allowed T t r) where
   unfolding chain domain
   chain-new =
       rw (add-one used, new-parent ls rs used taken r y (has-row ls layerWidth maxLayers used (S .lengths .layers) (A .room)))
-      (ap (λ (xs : List ℕ). used ∷ xs) (chains 15 y (in-use t (A .live)) ∙ chain-less ls 15 y (A .short)))
+      (ap (λ (xs : List ℕ). used ∷ xs) (chains (pred maxDomain) y (in-use t (A .live)) ∙ chain-less ls (pred maxDomain) y (A .short)))
 
   domain-new : domain ls′ ts′ t ≡ used ∷ domain ls ts t
   unfolding domain

@@ -1,4 +1,4 @@
-// The worked cases of document 01, as request W3 amends them, each from fresh tables. The file `stdout` has the answers, written from these.
+// The worked cases of document 01, as requests W3 and W5 amend them, each from fresh tables. The file `stdout` has the answers, written from these.
 mod play;
 mod stages;
 
@@ -211,11 +211,11 @@ fn main() {
     second_layers();
     attributes();
     bare(
-        b"16 layers, then a 17th",
+        b"64 layers, then a 65th",
         6,
         b"\x01\0\0\0\0\0\0\0",
         b"\x01\0\0\0\0\0\0\0",
-        17,
+        65,
         LAYERS,
     );
 }

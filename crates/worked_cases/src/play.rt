@@ -5,6 +5,12 @@ use crate::stages::open;
 use crate::stages::requests;
 use crate::stages::tree;
 use libc::STDOUT_FILENO;
+use tables::rows::ENTRIES_CELLS;
+use tables::rows::LAYERS_CELLS;
+use tables::rows::POOL_CELLS;
+use tables::rows::RULESETS_CELLS;
+use tables::rows::SYSTEM_CELLS;
+use tables::rows::THREADS_CELLS;
 
 // The stages whose answers can be written beside those of the requests.
 pub const TREE: u64 = 1;
@@ -25,12 +31,12 @@ pub struct Setup {
 }
 
 fn play(attribute: &[u8], other: &[u8], s: Setup, asked: Asked) {
-    let mut system = [0u64; 4];
-    let mut entries = [0u64; 3072];
-    let mut rulesets = [0u64; 3136];
-    let mut layers = [0u64; 384];
-    let mut pool = [0u64; 3072];
-    let mut threads = [0u64; 32];
+    let mut system = [0u64; SYSTEM_CELLS];
+    let mut entries = [0u64; ENTRIES_CELLS];
+    let mut rulesets = [0u64; RULESETS_CELLS];
+    let mut layers = [0u64; LAYERS_CELLS];
+    let mut pool = [0u64; POOL_CELLS];
+    let mut threads = [0u64; THREADS_CELLS];
     broker::fresh(
         &mut system,
         &mut entries,

@@ -11,19 +11,25 @@ use broker_rulesets::add_path_rule;
 use broker_rulesets::create_ruleset;
 use broker_tree::create::create;
 use libc::STDOUT_FILENO;
+use tables::rows::ENTRIES_CELLS;
+use tables::rows::LAYERS_CELLS;
+use tables::rows::POOL_CELLS;
+use tables::rows::RULESETS_CELLS;
+use tables::rows::SYSTEM_CELLS;
+use tables::rows::THREADS_CELLS;
 use tree::Replaced;
 
-pub type System = [u64; 4];
+pub type System = [u64; SYSTEM_CELLS];
 
-pub type Entries = [u64; 3072];
+pub type Entries = [u64; ENTRIES_CELLS];
 
-pub type Rulesets = [u64; 3136];
+pub type Rulesets = [u64; RULESETS_CELLS];
 
-pub type Layers = [u64; 384];
+pub type Layers = [u64; LAYERS_CELLS];
 
-pub type Pool = [u64; 3072];
+pub type Pool = [u64; POOL_CELLS];
 
-pub type Threads = [u64; 32];
+pub type Threads = [u64; THREADS_CELLS];
 
 const REGULAR: u64 = 1;
 

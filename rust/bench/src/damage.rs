@@ -2,7 +2,8 @@
 
 use crate::inputs::Random;
 use crate::landlock::OBJECTS_END;
-use crate::tables::{Tables, DOMAIN, LAYER_WIDTH, THREAD_WIDTH, WIDTHS};
+use crate::tables::Tables;
+use skeinrabbit_sys::layout::{LAYER_WIDTH, MAX_DOMAIN, THREAD_WIDTH, WIDTHS};
 
 /// The tables with one or two cells changed, or with a table of wrong length.
 pub fn damaged(tables: &Tables, random: &mut Random) -> Tables {
@@ -29,7 +30,7 @@ pub fn at_limits(tables: &Tables) -> Vec<Tables> {
     for counter in [OBJECTS_END, OBJECTS_END + 1] {
         add(&|variant| variant.system[1] = counter);
     }
-    for youngest in DOMAIN..=DOMAIN + 1 {
+    for youngest in MAX_DOMAIN..=MAX_DOMAIN + 1 {
         add(&|variant| one_domain(variant, youngest as u64));
     }
     add(&|variant| {

@@ -4,9 +4,10 @@ use crate::landlock::{
     ALL_FS, ALL_NET, DIRECTORY, FILE_SET, LAST_LEVEL, MAKE_REG, PATH_RULE, PORT_RULE, READ_FILE,
     REFER, REGULAR, REMOVE_FILE,
 };
-use crate::tables::{
-    Tables, ENTRIES, ENTRY_WIDTH, LAYERS, LAYER_WIDTH, POOL, RULES, RULESET_HEAD, RULESET_WIDTH,
-    RULE_WIDTH, THREAD_WIDTH,
+use crate::tables::Tables;
+use skeinrabbit_sys::layout::{
+    ENTRY_WIDTH, LAYER_WIDTH, MAX_DOMAIN, MAX_ENTRIES, MAX_LAYERS, MAX_POOL, MAX_RULES,
+    MAX_RULESETS, MAX_THREADS, RULESET_HEAD, RULESET_WIDTH, RULE_WIDTH, THREAD_WIDTH,
 };
 
 /// Rights that every layer handles and grants from the root down.
@@ -73,7 +74,7 @@ pub fn fresh() -> Tables {
     build.tables
 }
 
-/// A tree of 1,000 entries, and a domain of so many layers with 4 to 36 rules each.
+/// A tree of 1,000 entries, and a domain of so many layers.
 pub fn wide(layers: u64, refer: Refer) -> Tables {
     let mut build = Build::new(2);
     build.refer = refer;
@@ -94,26 +95,30 @@ pub fn crowded() -> Tables {
     build.tables
 }
 
-/// From 4 rules in the oldest of the layers to 36 in the youngest; 20 in a single one.
+/// From 4 rules in the oldest of the layers to 36 in the youngest, or to as many as the pool has room for; 20 in a single one.
 fn rules_of(layer: u64, layers: u64) -> u64 {
     if layers == 1 {
-        20
-    } else {
-        4 + 32 * layer / (layers - 1)
+        return 20;
     }
+    let average = MAX_POOL as u64 / layers;
+    let most_more = (2 * (average - 4)).min(32);
+    4 + most_more * layer / (layers - 1)
 }
 
-/// Every table full: 1,024 entries, 64 layers with 16 rules, 16 rulesets with 64, 8 threads.
+/// Every table full: 1,024 entries, 256 layers with 4 rules, 16 rulesets with 64, 8 threads with domains of 64 layers.
 pub fn full() -> Tables {
     let mut build = Build::new(4);
-    build.tree(ENTRIES as u64);
-    for thread in 0..4 {
-        let youngest = build.domain(16, |_| (POOL / LAYERS) as u64, ENTRIES);
-        build.thread(thread, youngest);
-        build.thread(thread + 4, youngest);
+    build.tree(MAX_ENTRIES as u64);
+    let domains = MAX_LAYERS / MAX_DOMAIN;
+    let rules = (MAX_POOL / MAX_LAYERS) as u64;
+    for domain in 0..domains {
+        let youngest = build.domain(MAX_DOMAIN as u64, |_| rules, MAX_ENTRIES);
+        for thread in (domain..MAX_THREADS).step_by(domains) {
+            build.thread(thread, youngest);
+        }
     }
-    for ruleset in 0..16 {
-        build.ruleset(ruleset, RULES as u64);
+    for ruleset in 0..MAX_RULESETS {
+        build.ruleset(ruleset, MAX_RULES as u64);
     }
     build.tables
 }
@@ -121,10 +126,10 @@ pub fn full() -> Tables {
 /// A chain 1,023 directories deep, and one layer of 4 rules, all near the root. The last entry is a file.
 pub fn chain() -> Tables {
     let mut build = Build::new(5);
-    for parent in 0..ENTRIES as u64 - 2 {
+    for parent in 0..MAX_ENTRIES as u64 - 2 {
         build.entry(DIRECTORY, parent);
     }
-    build.entry(REGULAR, ENTRIES as u64 - 2);
+    build.entry(REGULAR, MAX_ENTRIES as u64 - 2);
     let youngest = build.domain(1, |_| 4, 8);
     build.thread(0, youngest);
     build.tables
@@ -212,7 +217,7 @@ impl Build {
         let [layer, place] = [self.tables.system[2], self.tables.system[3]];
         let (handled, rules) = self.rules(count, entries);
         let row = [parent, handled, ALL_NET, 0, place, count];
-        self.tables.layers[LAYER_WIDTH * layer as usize..][..LAYER_WIDTH].copy_from_slice(&row);
+        self.tables.layers[LAYER_WIDTH * layer as usize..][..row.len()].copy_from_slice(&row);
         self.tables.pool[RULE_WIDTH * place as usize..][..rules.len()].copy_from_slice(&rules);
         self.tables.system[2] += 1;
         self.tables.system[3] += count;

@@ -1,33 +1,7 @@
 //! The six tables of cells that both sides work on.
 
-use skeinrabbit_sys::{Cells, SIZES};
-
-pub const ENTRIES: usize = 1024;
-pub const LAYERS: usize = 64;
-pub const POOL: usize = 1024;
-
-/// Rules to a ruleset or a layer.
-pub const RULES: usize = 64;
-/// Layers to a domain.
-pub const DOMAIN: usize = 16;
-
-pub const ENTRY_WIDTH: usize = 3;
-pub const RULE_WIDTH: usize = 3;
-/// The cells of a ruleset before its rules.
-pub const RULESET_HEAD: usize = 4;
-pub const RULESET_WIDTH: usize = RULESET_HEAD + RULE_WIDTH * RULES;
-pub const LAYER_WIDTH: usize = 6;
-pub const THREAD_WIDTH: usize = 4;
-
-/// The cells of a row of each table.
-pub const WIDTHS: [usize; 6] = [
-    4,
-    ENTRY_WIDTH,
-    RULESET_WIDTH,
-    LAYER_WIDTH,
-    RULE_WIDTH,
-    THREAD_WIDTH,
-];
+use skeinrabbit_sys::layout::{ENTRY_WIDTH, MAX_ENTRIES, SIZES, THREAD_WIDTH};
+use skeinrabbit_sys::Cells;
 
 #[derive(Clone, PartialEq, Eq)]
 pub struct Tables {
@@ -94,7 +68,7 @@ impl Tables {
 
     /// An entry's kind; 0 for a number that is no live entry's.
     pub fn kind(&self, entry: u64) -> u64 {
-        if entry < ENTRIES as u64 {
+        if entry < MAX_ENTRIES as u64 {
             self.entries[ENTRY_WIDTH * entry as usize]
         } else {
             0

@@ -3,21 +3,16 @@
 use crate::rights::*;
 use model::call::{Broker as _, Call};
 use model::proved::Core;
+use model::state::{MAX_ENTRIES, MAX_RULESETS, MAX_THREADS};
 use model::tables::Table::{self, *};
 use model::tables::Tables;
+use std::iter::successors;
 
 /// The six tables.
 #[derive(Clone)]
 pub struct Broker {
     tables: Tables,
 }
-
-pub const MAX_ENTRIES: u64 = 1024;
-pub const MAX_RULESETS: u64 = 16;
-pub const MAX_RULES: u64 = 64;
-pub const MAX_LAYERS: u64 = 64;
-pub const MAX_POOL_RULES: u64 = 1024;
-pub const MAX_THREADS: u64 = 8;
 
 impl Broker {
     /// Fresh tables at a level.
@@ -45,10 +40,6 @@ impl Broker {
 
     pub fn level(&self) -> u64 {
         self.cell(System, 0, 0)
-    }
-
-    pub fn layers_used(&self) -> u64 {
-        self.cell(System, 0, 2)
     }
 
     pub fn pool_used(&self) -> u64 {
@@ -113,6 +104,13 @@ impl Broker {
     }
 
     pub fn is_restricted(&self, thread: u64) -> bool {
-        self.cell(Threads, thread, 1) != 0
+        self.domain(thread) != 0
+    }
+
+    /// The number of layers in a thread's domain.
+    pub fn domain(&self, thread: u64) -> usize {
+        let youngest = self.cell(Threads, thread, 1).checked_sub(1);
+        let below = |layer: &u64| self.cell(Layers, *layer, 0).checked_sub(1);
+        successors(youngest, below).count()
     }
 }

@@ -1,8 +1,10 @@
 //! The classes of difference that the papers decide otherwise than Linux, each with its sentence.
 
-use crate::broker::{Broker, MAX_LAYERS, MAX_POOL_RULES, MAX_RULES, MAX_THREADS};
+use crate::broker::Broker;
+use crate::kernel::MAX_KERNEL_DOMAIN;
 use crate::rights::*;
 use model::call::Call;
+use model::state::{MAX_RULES, MAX_THREADS, POOL_PLACES};
 
 /// What a call was answered. The tables are those before it.
 #[derive(Clone, Copy)]
@@ -57,7 +59,7 @@ pub fn compare(answers: &Answers) -> Comparison {
         .map_or(Comparison::Unknown, Comparison::Known)
 }
 
-pub const CLASSES: [Class; 16] = [
+pub const CLASSES: [Class; 17] = [
     Class {
         name: "refer-of-domain",
         linux: "every layer of a domain handles REFER as soon as one of them has a file system mask",
@@ -112,6 +114,12 @@ pub const CLASSES: [Class; 16] = [
         linux: "a ruleset takes more than 64 rules",
         paper: "a new object or port with 64 rules present E2BIG",
         applies: rules_of_a_ruleset,
+    },
+    Class {
+        name: "layers-of-a-domain",
+        linux: "a 17th layer of a domain is E2BIG",
+        paper: "W5: The 17th layer is now fine and the 65th is E2BIG.",
+        applies: layers_of_a_domain,
     },
     Class {
         name: "layer-records",
@@ -244,18 +252,26 @@ fn log_flags(d: &Answers) -> bool {
 
 fn rules_of_a_ruleset(d: &Answers) -> bool {
     matches!(*d.call, Call::AddPathRule { ruleset, .. } | Call::AddPortRule { ruleset, .. }
-        if d.tables.rules(ruleset) == MAX_RULES)
+        if d.tables.rules(ruleset) == MAX_RULES as u64)
         && d.linux == 0
         && d.ours == -E2BIG
 }
 
+fn layers_of_a_domain(d: &Answers) -> bool {
+    matches!(*d.call, Call::Restrict { thread, .. }
+        if d.tables.domain(thread) == MAX_KERNEL_DOMAIN)
+        && d.linux == -E2BIG
+        && [0, -ENOMEM].contains(&d.ours)
+}
+
+/// Of the table's records only the pool's are used up here: 8 threads with the 16 layers that Linux lets them have use fewer
+/// than there are layer records.
 fn layer_records(d: &Answers) -> bool {
     let Call::Restrict { ruleset, .. } = *d.call else {
         return false;
     };
-    let full = d.tables.layers_used() == MAX_LAYERS
-        || d.tables.pool_used() + d.tables.rules(ruleset) > MAX_POOL_RULES;
-    full && d.linux == 0 && d.ours == -ENOMEM
+    let rules = d.tables.pool_used() + d.tables.rules(ruleset);
+    rules > POOL_PLACES as u64 && d.linux == 0 && d.ours == -ENOMEM
 }
 
 fn thread_records(d: &Answers) -> bool {
@@ -386,7 +402,16 @@ mod tests {
 
     /// How answers of ours and of Linux compare, the model being asked.
     fn compared(call: &Call, ours: i64, linux: i64) -> Comparison {
-        let (tables, mut model) = sides();
+        compared_after(&[], call, ours, linux)
+    }
+
+    /// The same after calls that succeed.
+    fn compared_after(before: &[Call], call: &Call, ours: i64, linux: i64) -> Comparison {
+        let (mut tables, mut model) = sides();
+        for call in before {
+            assert!(tables.ask(call) >= 0, "{call:?}");
+            assert!(model.answer(call).0.is_ok(), "{call:?}");
+        }
         compare(&Answers {
             tables: &tables,
             call,
@@ -421,8 +446,11 @@ mod tests {
         }
     }
 
-    /// Calls whose verdict Linux does not show: the class, the call of a thread, Linux's answer, and ours where nothing is denied.
-    const HIDDEN: [(&str, fn(u64) -> Call, i64, i64); 4] = [
+    /// The class, the call of a thread, Linux's answer, and ours where nothing is denied.
+    type Hidden = (&'static str, fn(u64) -> Call, i64, i64);
+
+    /// Calls whose verdict Linux does not show.
+    const HIDDEN: [Hidden; 4] = [
         ("symlink-opened", |t| access(t, LINK, READ_FILE), -ELOOP, 0),
         (
             "directory-as-file",
@@ -475,6 +503,29 @@ mod tests {
         let call = Call::Clone { thread: FREE };
         assert_eq!(compared(&call, 4, 0), Comparison::Agree);
         assert_eq!(compared(&call, 5, 0), Comparison::Unknown);
+    }
+
+    #[test]
+    fn a_17th_layer_is_of_the_class() {
+        let restrict = |ruleset| Call::Restrict {
+            thread: FREE,
+            ruleset,
+            flags: 0,
+        };
+        let name = "layers-of-a-domain";
+        for (layers, expected) in [(15, Comparison::Unknown), (16, class(name))] {
+            let before = vec![restrict(0); layers];
+            let answers = compared_after(&before, &restrict(0), 0, -E2BIG);
+            assert_eq!(answers, expected, "{layers} layers");
+        }
+        let full = vec![restrict(0); 16];
+        let wrong = [(0, -ENOMEM, -E2BIG), (0, 0, -ENOMEM), (9, -EBADF, -E2BIG)];
+        for (ruleset, ours, linux) in wrong {
+            let answers = compared_after(&full, &restrict(ruleset), ours, linux);
+            assert_eq!(answers, Comparison::Unknown, "{ruleset} {ours} {linux}");
+        }
+        let both = compared_after(&full, &restrict(9), -EBADF, -EBADF);
+        assert_eq!(both, Comparison::Agree);
     }
 
     /// The file to a directory.

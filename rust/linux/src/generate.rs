@@ -1,10 +1,11 @@
 //! Random calls that make sense on both sides.
 
-use crate::broker::{Broker, MAX_ENTRIES, MAX_RULESETS};
+use crate::broker::Broker;
 use crate::machine::Machine;
 use crate::random::Random;
 use crate::rights::*;
 use model::call::Call;
+use model::state::{MAX_ENTRIES, MAX_RULESETS};
 
 /// Ports above the ephemeral ones, and port 0.
 pub const PORTS: [u64; 5] = [0, 61_001, 61_002, 61_003, 65_535];

@@ -1,16 +1,20 @@
 //! Linux's side of a scenario: a tree of files, open rulesets, and threads.
 
-use crate::broker::{Broker, MAX_ENTRIES, MAX_RULESETS};
+use crate::broker::Broker;
 use crate::operation::Operation;
 use crate::rights::*;
 use crate::sys;
 use crate::task::Task;
 use model::call::Call;
+use model::state::{MAX_ENTRIES, MAX_RULESETS};
 use std::ffi::c_int;
 
 /// What stands for an entry or a ruleset that is not there.
 const ABSENT: &str = "absent";
 const NO_DESCRIPTOR: c_int = -1;
+
+/// The layers that Linux lets a domain have.
+pub const MAX_KERNEL_DOMAIN: usize = 16;
 
 pub struct Kernel {
     /// The directory that stands for the root.

@@ -1,12 +1,10 @@
 //! Scenarios that fill one table to its end.
 
-use crate::broker::{MAX_RULES, MAX_RULESETS, MAX_THREADS};
+use crate::kernel::MAX_KERNEL_DOMAIN;
 use crate::rights::*;
 use crate::scenario::{Scenario, Stop};
 use model::call::Call;
-
-/// The most layers of a domain.
-const MAX_DOMAIN: u64 = 16;
+use model::state::{MAX_RULES, MAX_RULESETS, MAX_THREADS};
 
 pub fn play(scenario: &mut Scenario) -> Result<(), Stop> {
     let fill = scenario
@@ -26,8 +24,8 @@ fn open_ruleset(scenario: &mut Scenario) -> Result<(), Stop> {
 }
 
 /// Adds rules for new directories.
-fn add_rules(scenario: &mut Scenario, number: u64) -> Result<(), Stop> {
-    for entry in 1..=number {
+fn add_rules(scenario: &mut Scenario, number: usize) -> Result<(), Stop> {
+    for entry in 1..=number as u64 {
         scenario.ask(Call::Create {
             thread: 0,
             directory: 0,
@@ -43,7 +41,7 @@ fn add_rules(scenario: &mut Scenario, number: u64) -> Result<(), Stop> {
     Ok(())
 }
 
-fn restrict(scenario: &mut Scenario, thread: u64, times: u64) -> Result<(), Stop> {
+fn restrict(scenario: &mut Scenario, thread: u64, times: usize) -> Result<(), Stop> {
     for _ in 0..times {
         scenario.ask(Call::Restrict {
             thread,
@@ -91,10 +89,10 @@ fn rules(scenario: &mut Scenario) -> Result<(), Stop> {
     })
 }
 
-/// A 17th layer of a domain, with refusals that come before E2BIG.
+/// The last layer that Linux lets a domain have, refusals that come before E2BIG, and one layer more.
 fn domain(scenario: &mut Scenario) -> Result<(), Stop> {
     open_ruleset(scenario)?;
-    restrict(scenario, 0, MAX_DOMAIN + 1)?;
+    restrict(scenario, 0, MAX_KERNEL_DOMAIN)?;
     scenario.ask(Call::Restrict {
         thread: 0,
         ruleset: 1,
@@ -109,22 +107,23 @@ fn domain(scenario: &mut Scenario) -> Result<(), Stop> {
     restrict(scenario, 1, 1)
 }
 
-/// A 65th layer record.
+/// As many layers as Linux lets the threads have.
 fn layers(scenario: &mut Scenario) -> Result<(), Stop> {
     open_ruleset(scenario)?;
-    for thread in 1..=5 {
+    for thread in 1..MAX_THREADS {
         scenario.ask(Call::Clone { thread: 0 })?;
-        restrict(scenario, thread, MAX_DOMAIN)?;
+        restrict(scenario, thread, MAX_KERNEL_DOMAIN)?;
     }
-    Ok(())
+    restrict(scenario, 0, MAX_KERNEL_DOMAIN)
 }
 
-/// More than 1,024 rules in all layers.
+/// More than 1,024 rules in all layers, for a domain that Linux finds full as well.
 fn pool(scenario: &mut Scenario) -> Result<(), Stop> {
     open_ruleset(scenario)?;
     add_rules(scenario, MAX_RULES)?;
     scenario.ask(Call::Clone { thread: 0 })?;
-    restrict(scenario, 1, MAX_DOMAIN)?;
+    restrict(scenario, 1, MAX_KERNEL_DOMAIN)?;
+    restrict(scenario, 1, 1)?;
     restrict(scenario, 0, 1)
 }
 

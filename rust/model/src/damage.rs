@@ -1,8 +1,8 @@
 //! Random damage to the cells of sound tables.
 
 use crate::random::Random;
-use crate::state::Model;
-use crate::tables::{Table, Tables};
+use crate::state::{Model, MAX_DOMAIN, MAX_RULES};
+use crate::tables::{Table, Tables, RULESET_HEAD, RULE_WIDTH};
 
 /// A change of one cell.
 #[derive(Clone, Copy, PartialEq, Eq, Debug)]
@@ -59,7 +59,10 @@ fn cell_in_use(model: &Model, tables: &Tables, random: &mut Random) -> Poke {
         row = (row + 1) % table.rows();
     }
     let width = match table {
-        Table::Rulesets => 4 + 3 * (1 + tables.row(table, row)[3].min(63) as usize),
+        Table::Rulesets => {
+            let rules = tables.row(table, row)[3].min(MAX_RULES as u64 - 1);
+            RULESET_HEAD + RULE_WIDTH * (1 + rules as usize)
+        }
         _ => table.width(),
     };
     let column = if random.chance(50) {
@@ -103,8 +106,7 @@ fn renamed_cell(model: &Model, tables: &Tables, random: &mut Random) -> Poke {
         }
         1 => {
             let row = row_in_use(Table::Threads, model, random);
-            let deep = random.below(4).min(model.layers.len() as u64);
-            (Table::Threads, row, 1, model.layers.len() as u64 - deep)
+            (Table::Threads, row, 1, deep_layer(model, random))
         }
         2 => {
             let row = rule_in_use(2, model, tables, random);
@@ -118,6 +120,22 @@ fn renamed_cell(model: &Model, tables: &Tables, random: &mut Random) -> Poke {
     };
     let cell = table.width() * row + column;
     Poke { table, cell, value }
+}
+
+/// A layer with too many below it, where there is one, or one of the last: its number plus 1, or 0
+/// for none.
+fn deep_layer(model: &Model, random: &mut Random) -> u64 {
+    let mut depths: Vec<usize> = Vec::new();
+    for layer in &model.layers {
+        let below = layer.parent.map_or(0, |parent| depths[parent]);
+        depths.push(below + 1);
+    }
+    let layers = (1..).zip(depths);
+    let too_deep = layers.filter(|(_, depth)| *depth > MAX_DOMAIN);
+    let too_deep: Vec<u64> = too_deep.map(|(number, _)| number).collect();
+    let all = model.layers.len() as u64;
+    let last = all - random.below(4).min(all);
+    random.pick_some(&too_deep).unwrap_or(last)
 }
 
 /// A pool place with a rule of a type, if there is one.
@@ -174,13 +192,21 @@ fn copy_row(model: &Model, tables: &Tables, random: &mut Random) -> Vec<Poke> {
 fn copy_key(model: &Model, tables: &Tables, random: &mut Random) -> Poke {
     let table = random.pick(&[Table::Entries, Table::Rulesets, Table::Layers, Table::Pool]);
     let row = row_in_use(table, model, random);
+    let cell_of = |row, column| table.width() * row + column;
     let (cell, from) = match table {
-        Table::Entries => (3 * row + 2, 3 * row_in_use(table, model, random) + 2),
-        Table::Layers => (6 * row + 4, 6 * row_in_use(table, model, random) + 4),
-        Table::Pool => (3 * row + 1, 3 * row.saturating_sub(1) + 1),
+        Table::Entries => (
+            cell_of(row, 2),
+            cell_of(row_in_use(table, model, random), 2),
+        ),
+        Table::Layers => (
+            cell_of(row, 4),
+            cell_of(row_in_use(table, model, random), 4),
+        ),
+        Table::Pool => (cell_of(row, 1), cell_of(row.saturating_sub(1), 1)),
         _ => {
-            let first = 196 * row + 4 + 3 * random.below(63) as usize + 1;
-            (first, first + 3)
+            let rule = random.below(MAX_RULES as u64 - 1) as usize;
+            let first = cell_of(row, RULESET_HEAD + RULE_WIDTH * rule + 1);
+            (first, first + RULE_WIDTH)
         }
     };
     let value = tables.of(table)[from];

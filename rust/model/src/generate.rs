@@ -5,7 +5,7 @@ use crate::random::Random;
 use crate::rights::{Masks, Rights};
 use crate::rulesets::known_size;
 use crate::start::{masks, some_of};
-use crate::state::{Key, Model, ROOT};
+use crate::state::{Key, Model, MAX_ENTRIES, MAX_RULESETS, MAX_THREADS, ROOT};
 
 /// Which calls are made most.
 #[derive(Clone, Copy)]
@@ -307,17 +307,17 @@ impl Choose<'_> {
 
     fn thread(&mut self) -> u64 {
         let live: Vec<u64> = self.model.threads.keys().copied().collect();
-        self.live_or_any(&live, 8)
+        self.live_or_any(&live, MAX_THREADS)
     }
 
     fn ruleset(&mut self) -> u64 {
         let open: Vec<u64> = self.model.rulesets.keys().copied().collect();
-        self.live_or_any(&open, 16)
+        self.live_or_any(&open, MAX_RULESETS)
     }
 
     fn entry(&mut self) -> u64 {
         let live: Vec<u64> = self.model.entries.keys().copied().collect();
-        self.live_or_any(&live, 1024)
+        self.live_or_any(&live, MAX_ENTRIES)
     }
 
     /// Mostly an entry other than the root.

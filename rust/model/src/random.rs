@@ -1,7 +1,7 @@
 //! Random numbers (splitmix64) and the choices made with them.
 
 /// Numbers at the limits of the tables and of the arguments.
-const EDGES: [u64; 30] = [
+const EDGES: [u64; 31] = [
     0,
     1,
     2,
@@ -18,6 +18,7 @@ const EDGES: [u64; 30] = [
     65,
     255,
     256,
+    257,
     1023,
     1024,
     1025,

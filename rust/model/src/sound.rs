@@ -5,7 +5,7 @@ use crate::state::{
     Entry, Key, Kind, Layer, Model, Rules, Ruleset, Thread, LAST_LEVEL, MAX_DOMAIN, MAX_LAYERS,
     MAX_PORT, MAX_RULES, OBJECTS_END, POOL_PLACES, ROOT,
 };
-use crate::tables::{Table, Tables};
+use crate::tables::{Table, Tables, RULESET_HEAD, RULE_WIDTH};
 use std::collections::BTreeMap;
 
 macro_rules! clauses {
@@ -194,7 +194,7 @@ impl RuleCheck {
 
     fn rules(&self, cells: &[u64], masks: &Masks) -> Checked<Rules> {
         let mut rules = Rules::default();
-        for rule in cells.chunks_exact(3) {
+        for rule in cells.chunks_exact(RULE_WIDTH) {
             let (key, rights) = self.rule(rule, masks)?;
             ensure(!rules.contains(key), Unsound::RuleTwice)?;
             rules.add(key, rights);
@@ -235,7 +235,7 @@ fn rulesets(tables: &Tables, check: &RuleCheck) -> Checked<BTreeMap<u64, Ruleset
             continue;
         }
         ensure(row[3] <= MAX_RULES as u64, Unsound::TooManyRules)?;
-        let (used, free) = row[4..].split_at(3 * row[3] as usize);
+        let (used, free) = row[RULESET_HEAD..].split_at(RULE_WIDTH * row[3] as usize);
         ensure(all_zero(free), Unsound::FreeRule)?;
         let rules = check.rules(used, &masks)?;
         rulesets.insert(number as u64, Ruleset { masks, rules });
@@ -251,7 +251,7 @@ fn layers(tables: &Tables, used: usize, check: &RuleCheck, model: &mut Model) ->
         let masks = check.masks(&row[1..4])?;
         ensure(!masks.is_empty(), Unsound::LayerHandlesNothing)?;
         let place = run(row[4], row[5], &mut taken)?;
-        let cells = &tables.of(Table::Pool)[3 * place..3 * (place + row[5] as usize)];
+        let cells = &tables.of(Table::Pool)[RULE_WIDTH * place..][..RULE_WIDTH * row[5] as usize];
         model.layers.push(Layer {
             parent: layer_below(row[0], number).ok_or(Unsound::LayerParent)?,
             masks,
@@ -261,7 +261,7 @@ fn layers(tables: &Tables, used: usize, check: &RuleCheck, model: &mut Model) ->
     }
     let free = &tables.of(Table::Layers)[Table::Layers.width() * used..];
     ensure(all_zero(free), Unsound::FreeLayer)?;
-    let free = &tables.of(Table::Pool)[3 * model.pool_used..];
+    let free = &tables.of(Table::Pool)[RULE_WIDTH * model.pool_used..];
     ensure(all_zero(free), Unsound::FreePool)?;
     for place in (0..model.pool_used).filter(|place| !taken[*place]) {
         let cells = cells_of(tables.row(Table::Pool, place));

@@ -109,15 +109,16 @@ fn open_rulesets(model: &mut Model, random: &mut Random) {
         0 => random.between(14, MAX_RULESETS),
         _ => random.between(0, 4),
     };
+    let entries: Vec<Entry> = model.entries.values().copied().collect();
     let mut numbers: Vec<u64> = (0..MAX_RULESETS).collect();
     random.shuffle(&mut numbers);
     for number in numbers.into_iter().take(count as usize) {
         let masks = masks(model.level, random);
         let count = match random.below(4) {
-            0 => random.between(61, 64),
+            0 => random.between(MAX_RULES as u64 - 3, MAX_RULES as u64),
             _ => random.between(0, 6),
         };
-        let rules = rules(model, &masks, count, random);
+        let rules = rules(&entries, model, &masks, count, random);
         model.rulesets.insert(number, Ruleset { masks, rules });
     }
 }
@@ -157,12 +158,17 @@ pub fn masks(level: u64, random: &mut Random) -> Masks {
 }
 
 /// Rules that masks allow; perhaps fewer than asked for.
-fn rules(model: &Model, masks: &Masks, count: u64, random: &mut Random) -> Rules {
-    let entries: Vec<Entry> = model.entries.values().copied().collect();
+fn rules(
+    entries: &[Entry],
+    model: &Model,
+    masks: &Masks,
+    count: u64,
+    random: &mut Random,
+) -> Rules {
     let mut rules = Rules::default();
     for _ in 0..3 * count {
         if rules.len() < (count as usize).min(MAX_RULES) {
-            let (key, rights) = rule(&entries, model, masks, random);
+            let (key, rights) = rule(entries, model, masks, random);
             if !rights.is_empty() {
                 rules.add(key, rights);
             }
@@ -212,20 +218,26 @@ pub fn some_of(rights: Rights, random: &mut Random) -> Rights {
     }
 }
 
+/// Few layers, about as many as a domain has at most, or nearly all that there are.
+fn layer_count(random: &mut Random) -> usize {
+    let count = match random.below(20) {
+        0 | 1 => 0,
+        2..=13 => random.between(1, 5),
+        14..=16 => random.between(MAX_DOMAIN as u64 - 2, MAX_DOMAIN as u64 + 2),
+        _ => random.between(MAX_LAYERS as u64 - 6, MAX_LAYERS as u64),
+    };
+    count as usize
+}
+
 fn stack_layers(model: &mut Model, random: &mut Random) {
     if random.chance(30) {
         return stack_uneven_layers(model, random);
     }
-    let count = match random.below(10) {
-        0 => 0,
-        1..=5 => random.between(1, 5),
-        6 | 7 => random.between(14, 18),
-        _ => random.between(59, MAX_LAYERS as u64),
-    };
-    let chain = random.pick(&[20, 60, 97]);
-    let most_rules = random.pick(&[0, 4, 8, 64]);
+    let entries: Vec<Entry> = model.entries.values().copied().collect();
+    let most_rules = random.pick(&[0, 4, 8, MAX_RULES as u64]);
+    let chain = random.pick(&[20, 60, 97, 100]);
     let mut total = 0;
-    for number in 0..count as usize {
+    for number in 0..layer_count(random) {
         let parent = match number.checked_sub(1) {
             Some(last) if random.chance(chain) => Some(last),
             Some(_) if random.chance(80) => Some(random.below(number as u64) as usize),
@@ -235,7 +247,7 @@ fn stack_layers(model: &mut Model, random: &mut Random) {
         let count = random
             .between(0, most_rules)
             .min(POOL_PLACES as u64 - total);
-        let rules = rules(model, &masks, count, random);
+        let rules = rules(&entries, model, &masks, count, random);
         total += rules.len() as u64;
         model.layers.push(Layer {
             parent,

@@ -8,10 +8,10 @@ pub const LAST_LEVEL: u64 = 6;
 pub const MAX_ENTRIES: u64 = 1024;
 pub const MAX_RULESETS: u64 = 16;
 pub const MAX_RULES: usize = 64;
-pub const MAX_LAYERS: usize = 64;
+pub const MAX_LAYERS: usize = 256;
 pub const POOL_PLACES: usize = 1024;
 pub const MAX_THREADS: u64 = 8;
-pub const MAX_DOMAIN: usize = 16;
+pub const MAX_DOMAIN: usize = 64;
 pub const MAX_PORT: u64 = 65_535;
 /// The object counter when no object number is left.
 pub const OBJECTS_END: u64 = 1 << 32;

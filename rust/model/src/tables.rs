@@ -1,7 +1,16 @@
 //! The six tables of cells, and the model as their contents.
 
 use crate::rights::{Masks, Rights};
-use crate::state::{Key, Model, Rules, MAX_ENTRIES, MAX_RULES};
+use crate::state::{
+    Key, Model, Rules, MAX_ENTRIES, MAX_LAYERS, MAX_RULES, MAX_RULESETS, MAX_THREADS, POOL_PLACES,
+};
+
+/// The cells of a rule.
+pub const RULE_WIDTH: usize = 3;
+/// The cells of a ruleset before its rules.
+pub const RULESET_HEAD: usize = 4;
+const RULESET_WIDTH: usize = RULESET_HEAD + RULE_WIDTH * MAX_RULES;
+const LAYER_WIDTH: usize = 6;
 
 /// The six tables.
 #[derive(Clone, Copy, PartialEq, Eq, PartialOrd, Ord, Debug)]
@@ -29,12 +38,19 @@ impl Table {
     }
 
     /// The cells of a row.
-    pub fn width(self) -> usize {
-        [4, 3, 196, 6, 3, 4][self as usize]
+    pub const fn width(self) -> usize {
+        [4, 3, RULESET_WIDTH, LAYER_WIDTH, RULE_WIDTH, 4][self as usize]
     }
 
     pub fn rows(self) -> usize {
-        [1, MAX_ENTRIES as usize, 16, 64, 1024, 8][self as usize]
+        [
+            1,
+            MAX_ENTRIES as usize,
+            MAX_RULESETS as usize,
+            MAX_LAYERS,
+            POOL_PLACES,
+            MAX_THREADS as usize,
+        ][self as usize]
     }
 
     pub fn length(self) -> usize {
@@ -128,7 +144,7 @@ fn encode_rulesets(model: &Model, tables: &mut Tables) {
         let row = tables.row_mut(Table::Rulesets, *number as usize);
         row[..3].copy_from_slice(&mask_cells(ruleset.masks));
         row[3] = ruleset.rules.len() as u64;
-        encode_rules(&ruleset.rules, &mut row[4..4 + 3 * MAX_RULES]);
+        encode_rules(&ruleset.rules, &mut row[RULESET_HEAD..]);
     }
 }
 
@@ -144,18 +160,18 @@ fn encode_layers(model: &Model, tables: &mut Tables) {
         row[5] = layer.rules.len() as u64;
         encode_rules(
             &layer.rules,
-            &mut tables.of_mut(Table::Pool)[3 * layer.place..],
+            &mut tables.of_mut(Table::Pool)[RULE_WIDTH * layer.place..],
         );
     }
 }
 
 fn encode_rules(rules: &Rules, cells: &mut [u64]) {
-    for ((key, rights), rule) in rules.iter().zip(cells.chunks_exact_mut(3)) {
+    for ((key, rights), rule) in rules.iter().zip(cells.chunks_exact_mut(RULE_WIDTH)) {
         rule.copy_from_slice(&rule_cells(key, rights));
     }
 }
 
-fn rule_cells(key: Key, rights: Rights) -> [u64; 3] {
+fn rule_cells(key: Key, rights: Rights) -> [u64; RULE_WIDTH] {
     match key {
         Key::Object(object) => [1, object, rights.0],
         Key::Port(port) => [2, port, rights.0],

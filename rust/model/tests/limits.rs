@@ -187,7 +187,7 @@ fn rulesets_16_the_last_of_64_rules() {
     write(&mut tables, Rulesets, 0..16, |_| [0, BIND_TCP]);
     tables = poked(tables, Rulesets, 15, 3, 64);
     let rules: Vec<u64> = (0..64).flat_map(|port| [PORT, port, BIND_TCP]).collect();
-    tables.of_mut(Rulesets)[196 * 15 + 4..].copy_from_slice(&rules);
+    tables.of_mut(Rulesets)[Rulesets.width() * 15 + 4..].copy_from_slice(&rules);
     sound(&tables, "16 rulesets, the last of 64 rules");
     refused(&tables, create_ruleset(), EMFILE);
     refused(&tables, add_port_rule(15, 64), E2BIG);
@@ -197,14 +197,39 @@ fn rulesets_16_the_last_of_64_rules() {
 }
 
 #[test]
-fn layers_64() {
-    let mut tables = poked(fresh(6), System, 0, 2, 64);
-    write(&mut tables, Layers, 0..64, |_| [0, WRITE_FILE]);
-    sound(&tables, "64 layers");
-    let free = poked(tables.clone(), System, 0, 2, 63);
-    unsound(&free, "64 layers, 63 in use");
+fn layers_256() {
+    let used = |count| {
+        let mut tables = poked(fresh(6), System, 0, 2, count);
+        write(&mut tables, Layers, 0..count, |_| [0, WRITE_FILE]);
+        tables
+    };
+    let mut tables = used(256);
+    sound(&tables, "256 layers");
+    for count in [255, 257] {
+        let counted = poked(tables.clone(), System, 0, 2, count);
+        unsound(&counted, "256 layers, another number of them counted");
+    }
     ready_to_restrict(&mut tables);
     refused(&tables, restrict(), ENOMEM);
+    let mut room = used(255);
+    ready_to_restrict(&mut room);
+    succeeds(&mut room, restrict(), 0);
+    assert_eq!(room.row(Threads, 0), [1, 256, 1, 0]);
+    assert_eq!(Both::unchanging(&room, &rules_of(255)), 0);
+    refused(&room, rules_of(256), EBADF);
+    refused(&room, restrict(), ENOMEM);
+}
+
+/// The layers table as it was before there were 256 layers.
+#[test]
+fn layers_of_the_old_length() {
+    let mut tables = fresh(6);
+    tables.of_mut(Layers).truncate(Layers.width() * 64);
+    unsound(&tables, "64 layer records");
+}
+
+fn rules_of(layer: u64) -> Call {
+    Call::LayerRules { layer, report: 0 }
 }
 
 /// 16 layers of 64 rules, each rule for a port of its own.
@@ -269,17 +294,22 @@ fn chain(layers: u64, youngest: u64) -> Tables {
 
 #[test]
 fn layers_to_a_domain() {
-    let mut full = chain(16, 16);
-    sound(&full, "16 layers to a domain");
-    unsound(&chain(17, 17), "17 layers to a domain");
-    let mut longer = chain(17, 16);
-    sound(&longer, "17 layers in a row, in no thread's domain");
+    let mut full = chain(64, 64);
+    sound(&full, "64 layers to a domain");
+    unsound(&chain(65, 65), "65 layers to a domain");
+    let mut longer = chain(256, 64);
+    sound(
+        &longer,
+        "256 layers in a row, 64 of them in a thread's domain",
+    );
     for tables in [&mut full, &mut longer] {
         ready_to_restrict(tables);
         refused(tables, restrict(), E2BIG);
     }
-    let mut room = chain(15, 15);
-    ready_to_restrict(&mut room);
-    succeeds(&mut room, restrict(), 0);
-    assert_eq!(room.row(Threads, 0), [1, 16, 1, 0]);
+    for layers in [15, 16, 62, 63] {
+        let mut room = chain(layers, layers);
+        ready_to_restrict(&mut room);
+        succeeds(&mut room, restrict(), 0);
+        assert_eq!(room.row(Threads, 0), [1, layers + 1, 1, 0]);
+    }
 }

@@ -6,7 +6,9 @@ use model::proved::Both;
 use model::refusal::Refusal::{self, *};
 use model::refusal::{returned, Answer};
 use model::rights::{Masks, Rights};
-use model::state::{Key, Model, Ruleset, Thread, OBJECTS_END};
+use model::state::{
+    Key, Model, Ruleset, Thread, MAX_DOMAIN, MAX_LAYERS, MAX_RULES, OBJECTS_END, POOL_PLACES,
+};
 use model::tables::encode;
 
 const REGULAR: u64 = 1;
@@ -163,6 +165,13 @@ fn restrict(thread: u64, ruleset: u64, flags: u64) -> Call {
     }
 }
 
+/// Gives a thread so many layers of ruleset 0.
+fn stack(model: &mut Model, thread: u64, layers: usize) {
+    for _ in 0..layers {
+        model.restrict(thread, 0, 0).unwrap();
+    }
+}
+
 #[test]
 fn restrict_order() {
     let mut model = sample();
@@ -172,37 +181,37 @@ fn restrict_order() {
     refused(&Model::fresh(0), restrict(0, 9, 1), Disabled);
     refused(&model, restrict(unmarked, 9, 1), NoMark);
     refused(&model, restrict(0, 9, 1), FlagsNotZero);
-    for _ in 0..16 {
-        model.restrict(0, 0, 0).unwrap();
-    }
+    stack(&mut model, 0, MAX_DOMAIN);
+    refused(&model, restrict(0, 0, 0), DomainFull);
     refused(&model, restrict(0, 9, 0), RulesetNotOpen);
-    model.set_admin(unmarked, true).unwrap();
-    for _ in 0..3 {
-        for _ in 0..16 {
-            model.restrict(unmarked, 0, 0).unwrap();
-        }
-        model
-            .threads
-            .insert(unmarked, *model.threads.get(&0).unwrap());
-        model.threads.get_mut(&unmarked).unwrap().youngest = None;
+    let other = unmarked;
+    model.set_admin(other, true).unwrap();
+    while model.layers.len() < MAX_LAYERS {
+        model.threads.get_mut(&other).unwrap().youngest = None;
+        stack(&mut model, other, MAX_DOMAIN);
     }
     refused(&model, restrict(0, 0, 0), DomainFull);
-    refused(&model, restrict(unmarked, 0, 0), NoFreeLayer);
+    model.threads.get_mut(&other).unwrap().youngest = None;
+    refused(&model, restrict(other, 9, 0), RulesetNotOpen);
+    refused(&model, restrict(other, 0, 0), NoFreeLayer);
 }
 
 #[test]
 fn the_pool_runs_full() {
     let mut model = sample();
     fill(&mut model, 0);
-    for _ in 0..16 {
-        model.restrict(0, 0, 0).unwrap();
-    }
-    model.threads.insert(0, Thread::default());
-    model.set_admin(0, true).unwrap();
+    stack(&mut model, 0, POOL_PLACES / MAX_RULES);
     refused(&model, restrict(0, 0, 0), PoolFull);
     deny(&mut model, Rights::EXECUTE);
     let empty = model.layers.last().unwrap();
     assert_eq!((empty.place, empty.rules.len()), (0, 0));
+    // A full domain goes before the pool.
+    let full = model.layers.len();
+    let ruleset = open(&mut model, Rights::EXECUTE);
+    for _ in full..MAX_DOMAIN {
+        model.restrict(0, ruleset, 0).unwrap();
+    }
+    refused(&model, restrict(0, 0, 0), DomainFull);
 }
 
 #[test]

@@ -14,6 +14,10 @@ use model::state::Model;
 use model::tables::Table::{self, *};
 use model::tables::{encode, Tables};
 
+/// The cells of a row.
+const RULESET: usize = Rulesets.width();
+const LAYER: usize = Layers.width();
+
 /// Tables with two directories, a file of two links, rules, three layers and a thread with two.
 fn sample() -> Tables {
     let mut model = Model::fresh(6);
@@ -66,7 +70,7 @@ fn counters() {
     broken(Level, &[(System, 0, 7)]);
     broken(ObjectCounter, &[(System, 1, 0)]);
     broken(ObjectCounter, &[(System, 1, (1 << 32) + 1)]);
-    broken(LayerCounter, &[(System, 2, 65)]);
+    broken(LayerCounter, &[(System, 2, 257)]);
     broken(PoolCounter, &[(System, 3, 1025)]);
     harmless(&[(System, 1, 1 << 32)]);
     harmless(&[(System, 3, 1024)]);
@@ -91,8 +95,8 @@ fn tree() {
 
 #[test]
 fn rulesets() {
-    broken(ClosedRuleset, &[(Rulesets, 196 + 3, 1)]);
-    broken(ClosedRuleset, &[(Rulesets, 196 + 195, 1)]);
+    broken(ClosedRuleset, &[(Rulesets, RULESET + 3, 1)]);
+    broken(ClosedRuleset, &[(Rulesets, 2 * RULESET - 1, 1)]);
     broken(MasksNotOfLevel, &[(Rulesets, 0, 1 << 16)]);
     broken(MasksNotOfLevel, &[(Rulesets, 1, 5)]);
     broken(MasksNotOfLevel, &[(Rulesets, 2, 4)]);
@@ -118,15 +122,15 @@ fn rules() {
 
 #[test]
 fn layers() {
-    let twice = [(Layers, 6 * 2 + 4, 1), (Layers, 6 * 2 + 5, 2)];
+    let twice = [(Layers, LAYER * 2 + 4, 1), (Layers, LAYER * 2 + 5, 2)];
     broken(LayerHandlesNothing, &[(Layers, 1, 0), (Layers, 2, 0)]);
     broken(MasksNotOfLevel, &[(Layers, 3, 4)]);
-    broken(FreeLayer, &[(Layers, 6 * 3, 1)]);
+    broken(FreeLayer, &[(Layers, LAYER * 3, 1)]);
     broken(FreeLayer, &[(System, 2, 2), (Threads, 1, 2)]);
-    broken(LayerParent, &[(Layers, 6, 2)]);
+    broken(LayerParent, &[(Layers, LAYER, 2)]);
     broken(EmptyRunPlace, &[(Layers, 4, 1)]);
-    broken(RunNotInPool, &[(Layers, 6 * 2 + 4, 4)]);
-    broken(RunNotInPool, &[(Layers, 6 * 2 + 4, u64::MAX)]);
+    broken(RunNotInPool, &[(Layers, LAYER * 2 + 4, 4)]);
+    broken(RunNotInPool, &[(Layers, LAYER * 2 + 4, u64::MAX)]);
     broken(RunsOverlap, &twice);
     broken(TooManyRules, &[(System, 3, 1024), (Layers, 5, 65)]);
     broken(FreePool, &[(Pool, 3 * 6 + 2, 1)]);
@@ -149,17 +153,17 @@ fn deep_domains() {
     let mut model = decode(&sample()).unwrap();
     model.layers.truncate(1);
     model.threads.get_mut(&0).unwrap().youngest = None;
-    for number in 1..17 {
+    for number in 1..65 {
         let mut layer = model.layers[0].clone();
         layer.parent = Some(number - 1);
         model.layers.push(layer);
     }
-    model.threads.get_mut(&0).unwrap().youngest = Some(15);
-    verdict::sound(&encode(&model), "a domain of 16");
-    model.threads.get_mut(&0).unwrap().youngest = Some(16);
+    model.threads.get_mut(&0).unwrap().youngest = Some(63);
+    verdict::sound(&encode(&model), "a domain of 64");
+    model.threads.get_mut(&0).unwrap().youngest = Some(64);
     let tables = encode(&model);
     assert_eq!(check(&tables).err(), Some(DomainTooDeep));
-    verdict::unsound(&tables, "a domain of 17");
+    verdict::unsound(&tables, "a domain of 65");
 }
 
 /// The sample with a table cut, or filled up with a value.

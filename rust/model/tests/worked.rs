@@ -128,10 +128,11 @@ fn attributes() {
     assert_eq!(number(third.create_ruleset(&network[..16], 0)), Err(E2BIG));
 }
 
+/// Request W5: "The 17th layer is now fine and the 65th is E2BIG."
 #[test]
-fn sixteen_layers() {
+fn sixty_four_layers() {
     let mut model = tree();
-    for _ in 0..16 {
+    for _ in 0..64 {
         layer(&mut model, WRITE, 0, &[]);
     }
     let ruleset = model.create_ruleset(&attribute(WRITE, 0), 0).unwrap();

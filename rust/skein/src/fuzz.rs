@@ -109,7 +109,7 @@ fn scenarios() -> Vec<Vec<u8>> {
 
 /// Words that no scenario has, and some that many have, in bytes that need not be text.
 fn odd_words() -> Vec<Vec<u8>> {
-    let words: [&[u8]; 39] = [
+    let words: [&[u8]; 42] = [
         b"\0",
         b"\r",
         b"\r\n",
@@ -147,6 +147,9 @@ fn odd_words() -> Vec<Vec<u8>> {
         b"\npoke threads 0 0xffffffffffffffff 32 1 0\n",
         b"\npoke entries 0 1 1024 3 0\n",
         b"\nfresh 3\n",
+        b"repeat",
+        b"repeat 3",
+        b"\nrepeat 9 clone main\n",
         b"\ncreate_ruleset net=3 scope=3\n",
         b"\ncreate_ruleset fs=4 size=18446744073709551615\n",
     ];

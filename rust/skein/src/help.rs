@@ -38,9 +38,11 @@ Options
   -V, --version the version
 
 Format (in full: docs/SCENARIO.md)
-  CALL ARGUMENT .. [-> NAME] [=> ANSWER]     # a comment, to the end of the line
+  [repeat N] CALL ARGUMENT .. [-> NAME] [=> ANSWER]
+  # a comment, to the end of the line
 
-  -> NAME binds the number of what the call makes.
+  repeat N makes the call N times, from 1 to 100,000, each with that answer.
+  -> NAME binds the number of what the call makes; not with repeat.
   => ANSWER says what the call must answer: a number, new N, an error's name
   (EACCES) or its negated number (-13); ok for any success, new for any that
   makes something, any for any answer at all. Without => the call must succeed.

@@ -18,8 +18,11 @@ pub struct Player {
 /// A line that was played.
 pub struct Played<'s> {
     pub statement: &'s Statement,
+    /// The round that is shown, from 1: the first whose answer differs, or else the last.
+    pub round: u64,
+    /// The answer of that round.
     pub answer: Answer,
-    /// The rules that `layer_rules` gave.
+    /// The rules that `layer_rules` gave in it.
     pub rules: Vec<Rule>,
 }
 
@@ -97,7 +100,19 @@ impl Player {
         Self { tables, names }
     }
 
+    /// Makes the call of a line as often as it says.
     fn play<'s>(&mut self, statement: &'s Statement) -> Result<Played<'s>, Bad> {
+        let mut shown = self.round(statement, 1)?;
+        for round in 2..=statement.rounds.unwrap_or(1) {
+            let played = self.round(statement, round)?;
+            if !shown.differs() {
+                shown = played;
+            }
+        }
+        Ok(shown)
+    }
+
+    fn round<'s>(&mut self, statement: &'s Statement, round: u64) -> Result<Played<'s>, Bad> {
         let mut rules = Vec::new();
         let answer = match &statement.call {
             Call::Fresh { level } => done(self.tables.fresh(*level)),
@@ -113,6 +128,7 @@ impl Player {
         }
         Ok(Played {
             statement,
+            round,
             answer,
             rules,
         })

@@ -57,9 +57,13 @@ pub fn counted(count: usize, noun: &str) -> String {
 
 /// What a line says of an answer that it does not allow.
 pub fn verdict(played: &Played) -> String {
-    match played.statement.expected {
+    let verdict = match played.statement.expected {
         Some(expected) => format!("expected {expected}"),
         None => "must succeed".to_owned(),
+    };
+    match played.statement.rounds {
+        Some(_) => format!("{verdict} in round {}", played.round),
+        None => verdict,
     }
 }
 
@@ -206,6 +210,8 @@ pub fn call_json(played: &Played) -> Json {
         ("line", Json::count(statement.line)),
         ("call", Json::text(statement.name)),
         ("text", Json::text(&statement.text)),
+        ("rounds", Json::Number(statement.rounds.unwrap_or(1))),
+        ("round", Json::Number(played.round)),
         ("answer", Json::text(played.answer.to_string())),
         ("number", Json::option(number, Json::Number)),
         (

@@ -355,7 +355,7 @@ fn the_demo_shows_the_tree_and_the_worked_answers() {
     for case in [
         "A: execute 3 gives 0*",
         "C: rename 3 to 2 EXDEV*",
-        "A 17th layer is E2BIG",
+        "A 65th layer is E2BIG",
     ] {
         assert!(ran.out.contains(case), "{case}");
     }

@@ -158,6 +158,35 @@ fn each_expectation_of_the_incident_can_fail() {
 }
 
 #[test]
+fn a_repeated_call_is_shown_once() {
+    let text = "\
+repeat 3 create main root regular => new
+repeat 2 clone main => new 1
+repeat 9 clone main
+repeat 2 clone main => EAGAIN
+create main root regular => new 4
+";
+    let ran = skein_with(&["run", "-"], text.as_bytes());
+    let expected = "\
+1  repeat 3 create main root regular  new 3   ok
+2  repeat 2 clone main                new 2   DIFFERS: expected new 1 in round 2
+3  repeat 9 clone main                EAGAIN  DIFFERS: must succeed in round 6
+       EAGAIN: no free thread
+4  repeat 2 clone main                EAGAIN  ok
+5  create main root regular           new 4   ok
+5 calls, 4 expectations, 2 differing: lines 2, 3
+";
+    assert_eq!((ran.code, ran.out.as_str()), (1, expected));
+    let document = json(&skein_with(&["run", "--json", "-"], text.as_bytes()).out);
+    let rounds = document.at("calls").list().iter();
+    let rounds = rounds.map(|call| (call.at("rounds").number(), call.at("round").number()));
+    assert_eq!(
+        rounds.collect::<Vec<_>>(),
+        [(3, 3), (2, 2), (9, 6), (2, 2), (1, 1)]
+    );
+}
+
+#[test]
 fn the_rules_of_a_layer_are_shown() {
     let text = "\
 create_ruleset fs=4 net=3 -> r

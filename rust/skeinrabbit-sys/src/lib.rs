@@ -4,6 +4,10 @@
 //! or 2^64 minus an error number. The crate `skeinrabbit` has a typed interface over these.
 #![no_std]
 
+pub mod layout;
+
+pub use layout::SIZES;
+
 /// The six tables, for the calls that may change them.
 pub struct Cells<'a> {
     pub system: &'a mut [u64],
@@ -38,9 +42,6 @@ impl Cells<'_> {
         }
     }
 }
-
-/// The cells of each table, in the order of the fields of [`Cells`].
-pub const SIZES: [usize; 6] = [4, 1024 * 3, 16 * 196, 64 * 6, 1024 * 3, 8 * 4];
 
 /// The pointer to a table's cells; one to be written through comes from an exclusive slice alone.
 macro_rules! pointer {

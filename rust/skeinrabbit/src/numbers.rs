@@ -62,7 +62,7 @@ number! {
 }
 
 number! {
-    /// A layer, one of 64.
+    /// A layer, one of 256.
     Layer
 }
 

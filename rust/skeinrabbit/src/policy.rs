@@ -105,7 +105,7 @@ impl Tables {
     /// the layer.
     ///
     /// Refusals, in order: tables not sound, EIO; thread not live, ESRCH; level 0, EOPNOTSUPP; neither mark set, EPERM; flags
-    /// not 0, EINVAL; ruleset not open, EBADF; 16 layers already, E2BIG; no free layer or too few free pool rules, ENOMEM.
+    /// not 0, EINVAL; ruleset not open, EBADF; 64 layers already, E2BIG; no free layer or too few free pool rules, ENOMEM.
     ///
     /// ```
     /// # use skeinrabbit::*;

@@ -6,6 +6,10 @@ use crate::numbers::{Entry, Layer, Ruleset, Thread};
 use crate::rights::{AccessFs, AccessNet, Scope};
 use crate::rules::Rules;
 use crate::tables::Tables;
+use skeinrabbit_sys::layout::{
+    LAYER_WIDTH, MAX_DOMAIN, MAX_ENTRIES, MAX_LAYERS, MAX_RULES, MAX_RULESETS, MAX_THREADS,
+    RULESET_HEAD, RULESET_WIDTH, RULE_WIDTH,
+};
 
 /// A live entry.
 #[derive(Clone, Copy, Debug, PartialEq, Eq)]
@@ -128,20 +132,22 @@ impl Tables {
 
     /// The live entries, lowest number first.
     pub fn entries(&self) -> impl Iterator<Item = EntryRow> + '_ {
-        (0..1024).filter_map(|number| self.entry(Entry::new(number)))
+        (0..MAX_ENTRIES as u64).filter_map(|number| self.entry(Entry::new(number)))
     }
 
     /// A ruleset, if it is open.
     pub fn open_ruleset(&self, ruleset: Ruleset) -> Option<RulesetRow<'_>> {
         let [fs, net, scope, count] = {
-            let row: [u64; 196] = self.cells().row(Table::Rulesets, ruleset.number())?;
+            let row: [u64; RULESET_WIDTH] = self.cells().row(Table::Rulesets, ruleset.number())?;
             let [fs, net, scope, count, ..] = row;
             [fs, net, scope, count]
         };
         let attribute = Attribute::from_cells(fs, net, scope);
-        let start = usize::try_from(ruleset.number()).ok()?.checked_mul(196)?;
-        let rules = self.cells().rulesets.get(start + 4..start + 196)?;
-        let length = usize::try_from(count.min(64)).ok()?.checked_mul(3)?;
+        let number = usize::try_from(ruleset.number()).ok()?;
+        let start = number.checked_mul(RULESET_WIDTH)?;
+        let row = self.cells().rulesets.get(start..start + RULESET_WIDTH)?;
+        let rules = row.get(RULESET_HEAD..)?;
+        let length = RULE_WIDTH * usize::try_from(count).map_or(MAX_RULES, |n| n.min(MAX_RULES));
         (attribute != Attribute::default()).then_some(RulesetRow {
             ruleset,
             attribute,
@@ -151,12 +157,12 @@ impl Tables {
 
     /// The open rulesets, lowest number first.
     pub fn open_rulesets(&self) -> impl Iterator<Item = RulesetRow<'_>> + '_ {
-        (0..16).filter_map(|number| self.open_ruleset(Ruleset::new(number)))
+        (0..MAX_RULESETS as u64).filter_map(|number| self.open_ruleset(Ruleset::new(number)))
     }
 
     /// A layer, if it is in use.
     pub fn layer(&self, layer: Layer) -> Option<LayerRow> {
-        let [parent, fs, net, scope, ..]: [u64; 6] =
+        let [parent, fs, net, scope, ..]: [u64; LAYER_WIDTH] =
             self.cells().row(Table::Layers, layer.number())?;
         let attribute = Attribute::from_cells(fs, net, scope);
         (attribute != Attribute::default()).then_some(LayerRow {
@@ -168,7 +174,7 @@ impl Tables {
 
     /// The layers in use, oldest first.
     pub fn layers(&self) -> impl Iterator<Item = LayerRow> + '_ {
-        (0..64).filter_map(|number| self.layer(Layer::new(number)))
+        (0..MAX_LAYERS as u64).filter_map(|number| self.layer(Layer::new(number)))
     }
 
     /// A thread, if it is live.
@@ -185,13 +191,14 @@ impl Tables {
 
     /// The live threads, lowest number first.
     pub fn threads(&self) -> impl Iterator<Item = ThreadRow> + '_ {
-        (0..8).filter_map(|number| self.thread(Thread::new(number)))
+        (0..MAX_THREADS as u64).filter_map(|number| self.thread(Thread::new(number)))
     }
 
-    /// The domain of a thread: its layers, youngest first, at most 16.
+    /// The domain of a thread: its layers, youngest first, at most 64.
     pub fn domain(&self, thread: Thread) -> impl Iterator<Item = LayerRow> + '_ {
         let youngest = self.thread(thread).and_then(|row| row.youngest);
         let first = youngest.and_then(|layer| self.layer(layer));
-        core::iter::successors(first, |row| row.parent.and_then(|layer| self.layer(layer))).take(16)
+        core::iter::successors(first, |row| row.parent.and_then(|layer| self.layer(layer)))
+            .take(MAX_DOMAIN)
     }
 }

@@ -2,6 +2,7 @@
 use crate::rights::{AccessFs, AccessNet};
 use core::fmt;
 use core::slice::ChunksExact;
+use skeinrabbit_sys::layout::RULE_WIDTH;
 
 /// What a ruleset or layer grants at one object or port.
 #[derive(Clone, Copy, Debug, PartialEq, Eq)]
@@ -56,7 +57,7 @@ impl<'t> Rules<'t> {
 
     /// The number of rules.
     pub fn len(self) -> usize {
-        self.cells.len() / 3
+        self.cells.len() / RULE_WIDTH
     }
 
     /// Whether there is no rule.
@@ -66,7 +67,7 @@ impl<'t> Rules<'t> {
 
     /// The rules one by one. Cells that are no rule are passed over; sound tables have none.
     pub fn iter(self) -> RulesIter<'t> {
-        RulesIter(self.cells.chunks_exact(3))
+        RulesIter(self.cells.chunks_exact(RULE_WIDTH))
     }
 }
 

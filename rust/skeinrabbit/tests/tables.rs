@@ -62,7 +62,7 @@ impl Noise {
 #[test]
 fn calls_keep_tables_sound_and_refusals_change_nothing() {
     const SMALL: [u64; 12] = [0, 0, 0, 1, 1, 2, 3, 4, 5, 7, 8486, 65_535];
-    const ODD: [u64; 6] = [8, 16, 64, 1024, 1 << 63, u64::MAX];
+    const ODD: [u64; 6] = [8, 16, 256, 1024, 1 << 63, u64::MAX];
     let mut noise = Noise(3);
     let mut refused = 0;
     let mut tables = Tables::new(Level::LATEST).unwrap();
@@ -124,7 +124,7 @@ fn any_cells_can_be_looked_at() {
     let mut cells = Cells::zeroed();
     for table in Table::ALL {
         for cell in cells.table_mut(table) {
-            *cell = noise.of(&[0, 1, 2, 3, 64, u64::MAX]);
+            *cell = noise.of(&[0, 1, 2, 3, 64, 256, u64::MAX]);
         }
     }
     let tables = Tables::from_cells(cells);
@@ -133,9 +133,9 @@ fn any_cells_can_be_looked_at() {
     assert!(tables
         .open_rulesets()
         .all(|row| row.rules.iter().count() <= 64));
-    assert!(tables.layers().count() <= 64);
+    assert!(tables.layers().count() <= 256);
     for thread in 0..9 {
-        assert!(tables.domain(Thread::new(thread)).count() <= 16);
+        assert!(tables.domain(Thread::new(thread)).count() <= 64);
     }
     assert_eq!(tables.entry(Entry::new(u64::MAX)), None);
     assert_eq!(tables.open_ruleset(Ruleset::new(u64::MAX)), None);
@@ -146,7 +146,7 @@ fn any_cells_can_be_looked_at() {
 fn tables_have_their_sizes() {
     let cells = Cells::zeroed();
     let sizes = Table::ALL.map(|table| cells.table(table).len());
-    assert_eq!(sizes, [4, 3072, 3136, 384, 3072, 32]);
+    assert_eq!(sizes, [4, 3072, 3136, 1536, 3072, 32]);
     assert_eq!(Table::ALL.map(Table::size), sizes);
     for table in Table::ALL {
         assert_eq!(table.name().parse(), Ok(table));
@@ -204,7 +204,7 @@ fn the_rules_of_a_layer_are_a_part_of_the_pool() {
     };
     assert_eq!(rules.into_iter().collect::<Vec<Rule>>(), [port, path]);
     assert!(tables.layer_rules(Layer::new(1)).unwrap().is_empty());
-    for layer in [2, 64, u64::MAX] {
+    for layer in [2, 256, u64::MAX] {
         assert_eq!(tables.layer_rules(Layer::new(layer)), Err(Errno::EBADF));
     }
 }

@@ -6,7 +6,8 @@ use crate::landlock::{
     held_rights, make_right, remove_right, ALL_FS, DIRECTORY, EACCES, EBUSY, EINVAL, EIO, ENOENT,
     ENOSPC, ENOTDIR, ENOTEMPTY, ESRCH, LAST_KIND, OBJECTS_END,
 };
-use crate::tables::{Tables, ENTRY_WIDTH};
+use crate::tables::Tables;
+use skeinrabbit_sys::layout::ENTRY_WIDTH;
 
 /// A broker with its soundness test.
 #[derive(Clone, Copy)]

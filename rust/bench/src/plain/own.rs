@@ -2,7 +2,8 @@
 
 use super::verdict::Move;
 use crate::landlock::{handled, EACCES, EXDEV, PATH_RULE};
-use crate::tables::{Tables, ENTRY_WIDTH, LAYER_WIDTH, RULE_WIDTH, THREAD_WIDTH};
+use crate::tables::Tables;
+use skeinrabbit_sys::layout::{ENTRY_WIDTH, LAYER_WIDTH, RULE_WIDTH, THREAD_WIDTH};
 use std::collections::HashMap;
 
 struct Entry {

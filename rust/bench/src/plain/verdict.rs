@@ -3,7 +3,8 @@
 use crate::landlock::{
     handled, held_rights, make_right, remove_right, EACCES, EXDEV, PATH_RULE, REFER,
 };
-use crate::tables::{Tables, ENTRY_WIDTH, LAYER_WIDTH, RULE_WIDTH};
+use crate::tables::Tables;
+use skeinrabbit_sys::layout::{ENTRY_WIDTH, LAYER_WIDTH, RULE_WIDTH};
 
 /// The rights that the rules give an object.
 pub fn rights_on(rules: &[u64], object: u64) -> u64 {

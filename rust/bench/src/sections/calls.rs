@@ -33,7 +33,7 @@ pub fn run(effort: Effort) {
     sound_tables().iter().for_each(access);
     let policies = policies();
     // The others are among the tables above.
-    policies[1..4].iter().for_each(access);
+    policies[1..5].iter().for_each(access);
     for (name, tables) in &policies {
         let script = Script::rename(tables);
         compare(effort, &format!("rename, {name}"), tables, &script);

@@ -34,13 +34,14 @@ pub const SECTIONS: [Section; 4] = [
 ];
 
 /// The tables that verdicts and whole calls are measured on.
-fn policies() -> [(&'static str, Tables); 5] {
+fn policies() -> [(&'static str, Tables); 6] {
     let wide = |layers| inputs::wide(layers, Refer::Everywhere);
     [
         ("fresh, 4 entries", inputs::fresh()),
         ("1,000 entries, 1 layer", wide(1)),
         ("1,000 entries, 4 layers", wide(4)),
         ("1,000 entries, 16 layers", wide(16)),
+        ("1,000 entries, 64 layers", wide(64)),
         ("1,023 deep, 1 layer", inputs::chain()),
     ]
 }

@@ -5,7 +5,7 @@ use crate::inputs::{Questions, Random, QUESTIONS};
 use crate::landlock::{DIRECTORY, PATH_RULE, REMOVE_DIR};
 use crate::measure::{against, agree, line, table, time, Effort, Side};
 use crate::plain::verdict;
-use crate::tables::{ENTRIES, ENTRY_WIDTH};
+use skeinrabbit_sys::layout::{ENTRY_WIDTH, MAX_ENTRIES};
 
 pub fn run(effort: Effort) {
     table(&["Part", "proved core", "plain Rust", "ratio"]);
@@ -19,7 +19,7 @@ pub fn run(effort: Effort) {
         let start = Questions::new(|| random.below(1000));
         climb(effort, &name, &wide, count, &start);
     }
-    let deep = tree(ENTRIES as u64, |entry| entry - 1);
+    let deep = tree(MAX_ENTRIES as u64, |entry| entry - 1);
     let start = Questions::new(|| 1016 + random.below(8));
     climb(effort, "climb, 1,023 deep, 4 rules", &deep, 4, &start);
 }
@@ -36,7 +36,7 @@ fn tree(count: u64, mut parent: impl FnMut(u64) -> u64) -> Vec<u64> {
     for entry in 1..count {
         cells.extend([DIRECTORY, parent(entry), entry]);
     }
-    cells.resize(ENTRY_WIDTH * ENTRIES, 0);
+    cells.resize(ENTRY_WIDTH * MAX_ENTRIES, 0);
     cells
 }
 

@@ -69,7 +69,7 @@ pub fn parse(arguments: &mut Arguments) -> Result<(&'static Form, Call), Bad> {
         return Err(Bad::new("no call", "a call before `->` or `=>`"));
     };
     let Some(form) = FORMS.iter().find(|form| form.name() == name) else {
-        let names: Vec<&str> = FORMS.iter().map(Form::name).collect();
+        let names: Vec<&str> = FORMS.iter().map(Form::name).chain(["repeat"]).collect();
         return Err(Bad::word(name, one_of("a call", name, &names)));
     };
     arguments.set_usage(form.usage);

@@ -6,6 +6,7 @@ mod call;
 mod forms;
 mod names;
 mod poke;
+mod repeat;
 
 pub use answer::{Answer, Expected};
 pub use call::{Call, Masks, Move, RulesetBytes, RulesetCall, ThreadCall, TreeCall};
@@ -28,8 +29,10 @@ pub struct Statement {
     pub line: usize,
     /// The lines of comment right above, without their marks.
     pub heading: Vec<String>,
-    /// The call and its arguments as they were written, one blank between.
+    /// The call and its arguments, with `repeat N` before them, as they were written, one blank between.
     pub text: String,
+    /// How often the call is made, where the line says so.
+    pub rounds: Option<u64>,
     /// The call's name.
     pub name: &'static str,
     pub call: Call,
@@ -135,17 +138,22 @@ impl Reader {
         let heading = std::mem::take(&mut self.heading);
         let (words, answer) = split_at_word(words, "=>");
         let (words, name) = split_at_word(words, "->");
-        let (form, call) = forms::parse(&mut Arguments::new(words, &self.declared))?;
+        let (rounds, of_call) = repeat::rounds(words)?;
+        let (form, call) = forms::parse(&mut Arguments::new(of_call, &self.declared))?;
         let binds = name.map(|name| binding(form.makes, name)).transpose()?;
         // Declared even where the answer is bad, so that one mistake is reported once.
         if let Some((space, name)) = &binds {
             self.declared.add(*space, name);
+        }
+        if rounds.is_some() && binds.is_some() {
+            return Err(Bad::word("->", "no name for a call that is repeated"));
         }
         let expected = answer.map(Expected::parse).transpose()?;
         self.statements.push(Statement {
             line,
             heading,
             text: words.join(" "),
+            rounds,
             name: form.name(),
             call,
             binds,

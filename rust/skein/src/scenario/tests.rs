@@ -276,6 +276,33 @@ remove x x";
     assert_eq!(bad("remove main main").len(), 1);
 }
 
+#[test]
+fn a_call_may_be_repeated() {
+    let read = statement("repeat 0x10  clone\tmain => new");
+    assert_eq!(read.rounds, Some(16));
+    assert_eq!(
+        (read.text.as_str(), read.name),
+        ("repeat 0x10 clone main", "clone")
+    );
+    assert_eq!(read.call, statement("clone main").call);
+    assert_eq!(read.expected, Some(Expected::Made));
+    assert_eq!(statement("clone main").rounds, None);
+    for rounds in [1, 100_000] {
+        let line = format!("repeat {rounds} clone main");
+        assert_eq!(statement(&line).rounds, Some(rounds));
+    }
+}
+
+#[test]
+fn a_name_beside_repeat_is_one_mistake() {
+    let lines = bad("repeat 2 clone main -> x\nclone x");
+    let [(1, found, expected)] = lines.as_slice() else {
+        panic!("{lines:?}");
+    };
+    assert_eq!(found, "`->`");
+    assert_eq!(expected, "no name for a call that is repeated");
+}
+
 /// Lines with what is found in them and a part of what is expected.
 const MISTAKES: &[(&str, &str, &str)] = &[
     ("walk main", "`walk`", "a call: fresh, create_ruleset"),
@@ -365,6 +392,25 @@ const MISTAKES: &[(&str, &str, &str)] = &[
     ("create_ruleset hex= fs=1", "`hex=` beside", "only one"),
     ("create_ruleset 5", "`5`", "fs=, net="),
     ("clone\u{a0}main", "`clone\\u{a0}main`", "a call"),
+    ("repaet 2 clone main", "`repaet`", "perhaps `repeat`"),
+    ("repeat", "too few words", "rounds from 1 to 100000"),
+    ("repeat => 0", "too few words", "rounds from 1 to 100000"),
+    ("repeat 2", "too few words", "a call after `repeat N`"),
+    ("repeat 2 walk", "`walk`", "a call: fresh"),
+    ("repeat 2 clone", "too few words", "`clone THREAD`"),
+    ("repeat clone main", "`clone`", "rounds from 1 to 100000"),
+    ("repeat 0 clone main", "`0`", "rounds from 1 to 100000"),
+    ("repeat -1 clone main", "`-1`", "rounds from 1 to 100000"),
+    (
+        "repeat 100001 clone main",
+        "`100001`",
+        "rounds from 1 to 100000",
+    ),
+    (
+        "repeat 2 repeat 2 clone main",
+        "`repeat`",
+        "a call after `repeat N`",
+    ),
 ];
 
 #[test]

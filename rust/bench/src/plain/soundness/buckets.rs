@@ -2,7 +2,7 @@
 
 use super::{unlike_those_before, Method};
 use crate::landlock::DIRECTORY;
-use crate::tables::{ENTRIES, ENTRY_WIDTH, LAYER_WIDTH, POOL, RULE_WIDTH};
+use skeinrabbit_sys::layout::{ENTRY_WIDTH, LAYER_WIDTH, MAX_ENTRIES, MAX_POOL, RULE_WIDTH};
 
 const BUCKETS: usize = 1024;
 const KEY_FLAGS: usize = 1024;
@@ -16,7 +16,7 @@ pub struct Buckets<'a> {
     /// For each bucket its last live entry + 1, or 0.
     heads: [u16; BUCKETS],
     /// For each live entry the one before it in its bucket, + 1, or 0.
-    links: [u16; ENTRIES],
+    links: [u16; MAX_ENTRIES],
 }
 
 impl<'a> Method<'a> for Buckets<'a> {
@@ -24,7 +24,7 @@ impl<'a> Method<'a> for Buckets<'a> {
         let mut buckets = Buckets {
             entries,
             heads: [0; BUCKETS],
-            links: [0; ENTRIES],
+            links: [0; MAX_ENTRIES],
         };
         let sound = climbs_end(entries, end) && (0..end).all(|entry| buckets.add(entry));
         sound.then_some(buckets)
@@ -57,7 +57,7 @@ impl<'a> Method<'a> for Buckets<'a> {
     }
 
     fn runs_apart(layers: &[u64]) -> bool {
-        let mut taken = [0u64; POOL / WORD];
+        let mut taken = [0u64; MAX_POOL / WORD];
         let mut rows = layers.chunks_exact(LAYER_WIDTH);
         rows.all(|row| take_run(&mut taken, row[4] as usize, row[5] as usize))
     }
@@ -123,12 +123,12 @@ fn take_run(taken: &mut [u64], first: usize, count: usize) -> bool {
 
 /// Whether climbing from every live entry, all of them before the end, comes to entry 0.
 fn climbs_end(entries: &[u64], end: usize) -> bool {
-    let mut marks = [0; ENTRIES];
+    let mut marks = [0; MAX_ENTRIES];
     (0..end).all(|entry| entries[ENTRY_WIDTH * entry] == 0 || climb(entries, entry, &mut marks))
 }
 
 /// Climbs to entry 0 or to one with an older climb's mark, marking the way; answers whether there is one.
-fn climb(entries: &[u64], entry: usize, marks: &mut [u16; ENTRIES]) -> bool {
+fn climb(entries: &[u64], entry: usize, marks: &mut [u16; MAX_ENTRIES]) -> bool {
     let own = entry as u16 + 1;
     let mut at = entry;
     while at != 0 && marks[at] == 0 {

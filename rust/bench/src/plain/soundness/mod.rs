@@ -10,9 +10,10 @@ use crate::landlock::{
     known_rights, DIRECTORY, FILE_SET, LAST_KIND, LAST_LEVEL, LAST_PORT, OBJECTS_END, PATH_RULE,
     PORT_RULE,
 };
-use crate::tables::{
-    Tables, DOMAIN, ENTRIES, ENTRY_WIDTH, LAYERS, LAYER_WIDTH, POOL, RULES, RULESET_HEAD,
-    RULESET_WIDTH, RULE_WIDTH, THREAD_WIDTH,
+use crate::tables::Tables;
+use skeinrabbit_sys::layout::{
+    ENTRY_WIDTH, LAYER_WIDTH, MAX_DOMAIN, MAX_ENTRIES, MAX_LAYERS, MAX_POOL, MAX_RULES,
+    RULESET_HEAD, RULESET_WIDTH, RULE_WIDTH, THREAD_WIDTH,
 };
 use skeinrabbit_sys::SIZES;
 
@@ -62,8 +63,8 @@ fn entries_and_rules_sound<'a, M: Method<'a>>(tables: &'a Tables) -> bool {
 fn system_sound(system: &[u64]) -> bool {
     system[0] <= LAST_LEVEL
         && (1..=OBJECTS_END).contains(&system[1])
-        && system[2] <= LAYERS as u64
-        && system[3] <= POOL as u64
+        && system[2] <= MAX_LAYERS as u64
+        && system[3] <= MAX_POOL as u64
 }
 
 fn threads_sound(tables: &Tables) -> bool {
@@ -81,7 +82,7 @@ fn threads_sound(tables: &Tables) -> bool {
 /// Whether the parents of a layer (its number + 1, or 0) come to none within the limit of a domain.
 fn chain_ends(layers: &[u64], youngest: u64) -> bool {
     let mut at = youngest;
-    for _ in 0..DOMAIN {
+    for _ in 0..MAX_DOMAIN {
         if at == 0 {
             return true;
         }
@@ -104,7 +105,7 @@ fn entries_sound(entries: &[u64], end: usize, next_object: u64) -> bool {
                 return parent | object == 0;
             }
             let below_directory =
-                parent < ENTRIES as u64 && entries[ENTRY_WIDTH * parent as usize] == DIRECTORY;
+                parent < MAX_ENTRIES as u64 && entries[ENTRY_WIDTH * parent as usize] == DIRECTORY;
             kind <= LAST_KIND && below_directory && object < next_object
         })
 }
@@ -139,7 +140,7 @@ impl<'a, M: Method<'a>> RuleTest<M> {
             if masks == [0; 3] {
                 return M::all_zero(row);
             }
-            if count > RULES as u64 || !self.masks_known(masks) {
+            if count > MAX_RULES as u64 || !self.masks_known(masks) {
                 return false;
             }
             let (rules, free) = row[RULESET_HEAD..].split_at(RULE_WIDTH * count as usize);
@@ -163,7 +164,7 @@ impl<'a, M: Method<'a>> RuleTest<M> {
     fn layer_sound(&self, row: &[u64], pool: &[u64]) -> bool {
         let (masks, first, count) = (&row[1..4], row[4], row[5]);
         let used = (pool.len() / RULE_WIDTH) as u64;
-        let placed = count <= RULES as u64 && first <= used && count <= used - first;
+        let placed = count <= MAX_RULES as u64 && first <= used && count <= used - first;
         if !placed || (count == 0 && first != 0) {
             return false;
         }

@@ -2,7 +2,7 @@
 
 use super::{unlike_those_before, Method};
 use crate::landlock::DIRECTORY;
-use crate::tables::{ENTRIES, ENTRY_WIDTH, LAYER_WIDTH};
+use skeinrabbit_sys::layout::{ENTRY_WIDTH, LAYER_WIDTH, MAX_ENTRIES};
 
 pub struct Pairwise<'a> {
     entries: &'a [u64],
@@ -10,8 +10,8 @@ pub struct Pairwise<'a> {
 
 impl<'a> Method<'a> for Pairwise<'a> {
     fn new(entries: &'a [u64], _: usize) -> Option<Pairwise<'a>> {
-        let climbs_end = (0..ENTRIES).all(|entry| reaches_root(entries, entry));
-        let sound = climbs_end && (0..ENTRIES).all(|entry| links_sound(entries, entry));
+        let climbs_end = (0..MAX_ENTRIES).all(|entry| reaches_root(entries, entry));
+        let sound = climbs_end && (0..MAX_ENTRIES).all(|entry| links_sound(entries, entry));
         sound.then_some(Pairwise { entries })
     }
 
@@ -39,14 +39,14 @@ impl<'a> Method<'a> for Pairwise<'a> {
     }
 
     fn rows_used(_: &[u64]) -> usize {
-        ENTRIES
+        MAX_ENTRIES
     }
 }
 
 /// Whether climbing comes to entry 0; a free row's parent cell is 0.
 fn reaches_root(entries: &[u64], entry: usize) -> bool {
     let mut at = entry;
-    for _ in 0..ENTRIES {
+    for _ in 0..MAX_ENTRIES {
         if at == 0 {
             return true;
         }

@@ -1,0 +1,46 @@
+//! How many rows each table has and how many cells each row.
+
+/// Entries of the tree.
+pub const MAX_ENTRIES: usize = 1024;
+/// Rulesets that are open at once.
+pub const MAX_RULESETS: usize = 16;
+/// Rules of a ruleset or layer.
+pub const MAX_RULES: usize = 64;
+/// Layer records.
+pub const MAX_LAYERS: usize = 256;
+/// Rules of all layers.
+pub const MAX_POOL: usize = 1024;
+/// Threads that are live at once.
+pub const MAX_THREADS: usize = 8;
+/// Layers of a thread's domain.
+pub const MAX_DOMAIN: usize = 64;
+
+/// The cells of the only row of `system`.
+pub const SYSTEM_WIDTH: usize = 4;
+pub const ENTRY_WIDTH: usize = 3;
+/// The cells of a ruleset before its rules.
+pub const RULESET_HEAD: usize = 4;
+pub const RULESET_WIDTH: usize = RULESET_HEAD + RULE_WIDTH * MAX_RULES;
+pub const LAYER_WIDTH: usize = 6;
+pub const RULE_WIDTH: usize = 3;
+pub const THREAD_WIDTH: usize = 4;
+
+/// The cells of a row of each table, in the order of the fields of [`Cells`](crate::Cells).
+pub const WIDTHS: [usize; 6] = [
+    SYSTEM_WIDTH,
+    ENTRY_WIDTH,
+    RULESET_WIDTH,
+    LAYER_WIDTH,
+    RULE_WIDTH,
+    THREAD_WIDTH,
+];
+
+/// The cells of each table, in the same order.
+pub const SIZES: [usize; 6] = [
+    SYSTEM_WIDTH,
+    ENTRY_WIDTH * MAX_ENTRIES,
+    RULESET_WIDTH * MAX_RULESETS,
+    LAYER_WIDTH * MAX_LAYERS,
+    RULE_WIDTH * MAX_POOL,
+    THREAD_WIDTH * MAX_THREADS,
+];
