@@ -93,6 +93,12 @@ struct skein_tables {
 #define SKEIN_FS_FILE_SET \
 	(SKEIN_FS_EXECUTE | SKEIN_FS_WRITE_FILE | SKEIN_FS_READ_FILE | SKEIN_FS_TRUNCATE | SKEIN_FS_IOCTL_DEV)
 
+/* The rights to change something, which no rule on the root may ask for. */
+#define SKEIN_FS_NOT_AT_ROOT                                                                                          \
+	(SKEIN_FS_WRITE_FILE | SKEIN_FS_REMOVE_DIR | SKEIN_FS_REMOVE_FILE | SKEIN_FS_MAKE_CHAR | SKEIN_FS_MAKE_DIR |  \
+	 SKEIN_FS_MAKE_REG | SKEIN_FS_MAKE_SOCK | SKEIN_FS_MAKE_FIFO | SKEIN_FS_MAKE_BLOCK | SKEIN_FS_MAKE_SYM |      \
+	 SKEIN_FS_REFER | SKEIN_FS_TRUNCATE)
+
 /* Network rights, since level 4. */
 #define SKEIN_NET_BIND_TCP (UINT64_C(1) << 0)
 #define SKEIN_NET_CONNECT_TCP (UINT64_C(1) << 1)
@@ -230,7 +236,8 @@ static inline int64_t skeinrabbit_close_ruleset(struct skein_tables *t, uint64_t
 /*
  * Adds a rule on an entry's object; a rule already there joins the rights.
  * EOPNOTSUPP level 0; EINVAL flags not 0; EBADF ruleset not open; ENOMSG rights empty; EINVAL rights outside those handled;
- * EBADF entry not live; EINVAL entry no directory and rights outside the file set; E2BIG a new object with 64 rules present.
+ * EBADF entry not live; EPERM the root and one of the rights SKEIN_FS_NOT_AT_ROOT, whatever is granted there already;
+ * EINVAL entry no directory and rights outside the file set; E2BIG a new object with 64 rules present.
  */
 static inline int64_t skeinrabbit_add_path_rule(struct skein_tables *t, uint64_t ruleset, uint64_t entry, uint64_t rights,
 						uint64_t flags)

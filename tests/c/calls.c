@@ -31,6 +31,8 @@ static void ruleset_calls(struct skein_tables *t)
 	expect("create_ruleset, zeros", skeinrabbit_create_ruleset(t, zeros, sizeof(attr), 0), -SKEIN_ENOMSG);
 	expect("create_ruleset", skeinrabbit_create_ruleset(t, &attr, sizeof(attr), 0), 0);
 	expect("add_path_rule", skeinrabbit_add_path_rule(t, 0, 1, SKEIN_FS_READ_FILE, 0), 0);
+	expect("add_path_rule, the root", skeinrabbit_add_path_rule(t, 0, SKEIN_ROOT, SKEIN_FS_MAKE_SOCK, 0), -SKEIN_EPERM);
+	expect("the rights not at the root", (int64_t)SKEIN_FS_NOT_AT_ROOT, 32754);
 	expect("add_path_rule, REFER not asked", skeinrabbit_add_path_rule(t, 0, 1, SKEIN_FS_REFER, 0), -SKEIN_EINVAL);
 	expect("add_port_rule", skeinrabbit_add_port_rule(t, 0, SKEIN_MAX_PORT, SKEIN_NET_BIND_TCP, 0), 0);
 	expect("add_port_rule, too high", skeinrabbit_add_port_rule(t, 0, 65536, SKEIN_NET_BIND_TCP, 0), -SKEIN_EINVAL);

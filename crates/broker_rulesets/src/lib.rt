@@ -55,7 +55,7 @@ pub fn close_ruleset(
     ruleset_apply::close(system, entries, rulesets, layers, pool, threads, r)
 }
 
-// Adds a rule for an entry's object: EIO, EOPNOTSUPP, EINVAL, EBADF, ENOMSG, EINVAL, EBADF, EINVAL, E2BIG.
+// Adds a rule for an entry's object: EIO, EOPNOTSUPP, EINVAL, EBADF, ENOMSG, EINVAL, EBADF, EPERM, EINVAL, E2BIG.
 pub fn add_path_rule(
     system: &[u64],
     entries: &[u64],

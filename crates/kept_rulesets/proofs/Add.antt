@@ -156,7 +156,7 @@ kept-path-added T r e rights flags h = kept-call T (addPathChecks T r e rights f
         below = S .tree .objects e alive;
         some = eqb-false rights 0 (p .1 .1 .1 .0);
         asked = not-false _ (f .0);
-        fits = path-fits (T .entries) (counter (T .system)) e rights (S .tree) alive (f .1 .1 .0);
+        fits = path-fits (T .entries) (counter (T .system)) e rights (S .tree) alive (f .1 .1 .1 .0);
       };
       port = λ t. absurd (omega arith);
     })) h

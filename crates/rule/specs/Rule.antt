@@ -5,8 +5,8 @@ use Prim.Native.Nat.{ℕ, _+_, _*_}
 use lib.Dec.{eqb, ltb, leb}
 use Rattle.laws.specs.Refusals.{Check, _⇒_}
 use Rattle.laws.specs.Cells.{cell, putCell}
-use Rattle.access.specs.Rights.{join, within}
-use Rattle.access.specs.Errno.{EBADF, E2BIG, EINVAL, ENOMSG, EOPNOTSUPP}
+use Rattle.access.specs.Rights.{join, meet, within, writeSet}
+use Rattle.access.specs.Errno.{EPERM, EBADF, E2BIG, EINVAL, ENOMSG, EOPNOTSUPP}
 use Rattle.access.specs.Limits.{maxRules, maxPort}
 use Rattle.access.specs.declared.errno.Reply.the-variants.{Done}
 use Rattle.tables.specs.Tables.{Tables, rulesetWidth, rulesetHead, ruleWidth, level, object, live, pastFileSet, pathRule, portRule}
@@ -32,12 +32,17 @@ placeIn rs r ty key = rulePlace (rulesetAt rs r .rules) ty key
 unfoldable pub isFull : List ℕ → ℕ → ℕ → ℕ → Bool
 isFull rs r ty key = leb (rulesetCount rs r) (placeIn rs r ty key) && leb maxRules (rulesetCount rs r)
 
+-- document 02, W6: "A path rule on the root that asks for any of" the write set. The root is entry 0
+unfoldable pub sweeping : ℕ → ℕ → Bool
+sweeping e rights = eqb e 0 && not (eqb (meet rights writeSet) 0)
+
 -- "rights outside those handled EINVAL (REFER must be handled explicitly); entry not live EBADF, entry no directory and rights outside the file set EINVAL";
--- then E2BIG
+-- then E2BIG. W6: "EPERM, directly after the entry's EBADF"
 unfoldable pub pathForm : List ℕ → List ℕ → ℕ → ℕ → ℕ → List Check
 pathForm es rs r e rights =
     not (within rights (rulesetAt rs r .fs)) ⇒ EINVAL
     ∷ not (live es e) ⇒ EBADF
+    ∷ sweeping e rights ⇒ EPERM
     ∷ pastFileSet es e rights ⇒ EINVAL
     ∷ isFull rs r pathRule (object es e) ⇒ E2BIG
     ∷ []

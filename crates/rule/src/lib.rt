@@ -18,7 +18,7 @@ ghost use mathlib.Core.Path.{_≡_};
 ghost use Prim.Native.Nat.{_<_};
 ghost use Rattle.laws.specs.Refusals.{first};
 ghost use Rattle.tables.specs.Tables.{before};
-ghost use Rattle.rule.specs.Rule.{placeIn, addForm, isFull, pathForm, portForm, addPathChecks, addPortChecks};
+ghost use Rattle.rule.specs.Rule.{placeIn, addForm, isFull, sweeping, pathForm, portForm, addPathChecks, addPortChecks};
 
 fn add_form(system: &[u64], rulesets: &[u64], r: u64, rights: Rights, flags: u64) -> u64
     ensures { λ q. ⌜ q ≡ first (addForm (now (system .entry)) (now (rulesets .entry)) r (rights .0) flags) ⌝ }
@@ -55,6 +55,16 @@ fn is_full(rulesets: &[u64], r: u64, ty: u64, key: u64) -> bool
     count >= MAX_RULES as u64
 }
 
+// A rule on the root that asks for a right of the write set.
+fn is_sweeping(e: u64, rights: Rights) -> bool
+    ensures { λ q. ⌜ q ≡ sweeping e (rights .0) ⌝ }
+{
+    if e != 0 {
+        return false;
+    }
+    !rights.meet(Rights::WRITE).is_empty()
+}
+
 fn path_form(entries: &[u64], rulesets: &[u64], r: u64, e: u64, rights: Rights) -> u64
     ensures { λ q. ⌜ q ≡ first (pathForm (now (entries .entry)) (now (rulesets .entry)) r e (rights .0)) ⌝ }
 {
@@ -64,6 +74,9 @@ fn path_form(entries: &[u64], rulesets: &[u64], r: u64, e: u64, rights: Rights) 
     }
     if !entry_live(entries, e) {
         return Errno::EBADF.0;
+    }
+    if is_sweeping(e, rights) {
+        return Errno::EPERM.0;
     }
     if past_file_set(entries, e, rights) {
         return Errno::EINVAL.0;

@@ -25,7 +25,7 @@ use Rattle.judge.specs.Judge.{grants, granted, handled, denied, missing}
 use Rattle.judge.specs.Domain.{chain, domain, layerLacks, lacks}
 use Rattle.ruleset.specs.Attribute.{number, knownSize, strayByte, stray}
 use Rattle.ruleset.specs.Create.{freeRuleset, createForm, createMasks, createChecks, opened, createDone, created}
-use Rattle.rule.specs.Rule.{addForm, isFull, pathForm, addPathChecks, appended, added, addDone, pathAdded}
+use Rattle.rule.specs.Rule.{addForm, isFull, sweeping, pathForm, addPathChecks, appended, added, addDone, pathAdded}
 use Rattle.domain_restrict.specs.Restrict.{unmarked, restrictForm, isDeep, noRoom, restrictRoom, restrictChecks, layerRow, counted, restricted, restrictDone, restrictCall}
 use Rattle.domain.specs.Threads.{markChecks, markDone, privsSet}
 use Rattle.fs_access.specs.Access.{accessNames, accessMask, accessChecks, accessCall}
@@ -109,7 +109,7 @@ unfolding anyBelow allOf firstFrom firstBelow any first copied
     live isDir pastFileSet threadLive handlesAny rulesetAt isOpen layerAt answer freshTables masksKnown
     isRule rulePlace rightsOn grants granted handled denied missing chain domain layerLacks lacks
     number knownSize strayByte stray freeRuleset createForm createMasks createChecks opened createDone
-    addForm isFull pathForm addPathChecks appended added addDone
+    addForm isFull sweeping pathForm addPathChecks appended added addDone
     unmarked restrictForm isDeep noRoom restrictRoom restrictChecks layerRow counted restricted restrictDone markChecks markDone
     accessNames accessMask accessChecks sourceNeeds targetNeeds
     entryRights deniedNeeds deniedRefer uncontained escaping crossing layerDenies layerCrosses verdict

@@ -59,7 +59,7 @@ pub fn compare(answers: &Answers) -> Comparison {
         .map_or(Comparison::Unknown, Comparison::Known)
 }
 
-pub const CLASSES: [Class; 17] = [
+pub const CLASSES: [Class; 18] = [
     Class {
         name: "refer-of-domain",
         linux: "every layer of a domain handles REFER as soon as one of them has a file system mask",
@@ -108,6 +108,12 @@ pub const CLASSES: [Class; 17] = [
         linux: "landlock_restrict_self(2) knows flags that turn logging on or off",
         paper: "flags not 0 EINVAL; Left out: opened files, descriptors of other kinds (so no EBADFD), audit logging",
         applies: log_flags,
+    },
+    Class {
+        name: "root-write-rule",
+        linux: "a rule on the root is one like any other",
+        paper: "W6: A path rule on the root that asks for any of WRITE_FILE, TRUNCATE, REMOVE, MAKE or REFER is refused with EPERM",
+        applies: root_write_rule,
     },
     Class {
         name: "rules-of-a-ruleset",
@@ -250,6 +256,12 @@ fn log_flags(d: &Answers) -> bool {
         && d.ours == -EINVAL
 }
 
+fn root_write_rule(d: &Answers) -> bool {
+    matches!(*d.call, Call::AddPathRule { entry: 0, rights, .. } if rights & CHANGING != 0)
+        && d.linux == 0
+        && d.ours == -EPERM
+}
+
 fn rules_of_a_ruleset(d: &Answers) -> bool {
     matches!(*d.call, Call::AddPathRule { ruleset, .. } | Call::AddPortRule { ruleset, .. }
         if d.tables.rules(ruleset) == MAX_RULES as u64)
@@ -351,6 +363,15 @@ mod tests {
     const NETWORK: u64 = 2;
     const MIXED: u64 = 3;
 
+    fn path_rule(entry: u64, rights: u64) -> Call {
+        Call::AddPathRule {
+            ruleset: 1,
+            entry,
+            rights,
+            flags: 0,
+        }
+    }
+
     /// The tree and the threads, on our side and on the model's.
     fn sides() -> (Broker, Model) {
         let (mut tables, mut model) = (Broker::new(TOP_LEVEL), Model::fresh(TOP_LEVEL));
@@ -378,12 +399,7 @@ mod tests {
             create_ruleset(&[all]),
             create_ruleset(&[all]),
             create_ruleset(&[0, net]),
-            Call::AddPathRule {
-                ruleset: 1,
-                entry: 0,
-                rights: all,
-                flags: 0,
-            },
+            path_rule(UPPER, all),
             Call::SetNoNewPrivs { thread: FREE },
             Call::Clone { thread: FREE },
             Call::Clone { thread: FREE },
@@ -503,6 +519,29 @@ mod tests {
         let call = Call::Clone { thread: FREE };
         assert_eq!(compared(&call, 4, 0), Comparison::Agree);
         assert_eq!(compared(&call, 5, 0), Comparison::Unknown);
+    }
+
+    #[test]
+    fn a_root_rule_is_of_the_class() {
+        for bit in 0..16 {
+            let call = path_rule(0, 1 << bit);
+            let expected = match bit {
+                0 | 2 | 3 | 15 => Comparison::Unknown,
+                _ => class("root-write-rule"),
+            };
+            assert_eq!(compared(&call, -EPERM, 0), expected, "bit {bit}");
+        }
+        assert_eq!(compared(&path_rule(0, READ_DIR), 0, 0), Comparison::Agree);
+        let wrong = [
+            (path_rule(0, WRITE_FILE), 0, 0),
+            (path_rule(0, WRITE_FILE), -EPERM, -E2BIG),
+            (path_rule(UPPER, WRITE_FILE), -EPERM, 0),
+            (path_rule(0, WRITE_FILE | 1 << 16), -EPERM, 0),
+        ];
+        for (call, ours, linux) in wrong {
+            let answers = compared(&call, ours, linux);
+            assert_eq!(answers, Comparison::Unknown, "{call:?} {ours} {linux}");
+        }
     }
 
     #[test]

@@ -10,6 +10,9 @@ use model::state::{MAX_ENTRIES, MAX_RULESETS};
 /// Ports above the ephemeral ones, and port 0.
 pub const PORTS: [u64; 5] = [0, 61_001, 61_002, 61_003, 65_535];
 
+/// The first entry of a scenario, a directory in which most of the others stand.
+pub const TOP: u64 = 1;
+
 /// A flag that no kernel knows.
 const UNKNOWN_FLAGS: [u64; 2] = [1 << 16, 1 << 31];
 /// Those that turn logging on or off in landlock_restrict_self(2).
@@ -93,13 +96,16 @@ impl Generator<'_> {
         }
     }
 
-    /// Most often a directory.
+    /// Most often a directory, and seldom the root: no rule lets a thread change it.
     fn directory(&mut self) -> u64 {
         if self.random.percent(6) {
             return self.entry();
         }
         let mut live = self.tables.live_entries();
         live.retain(|&entry| self.tables.is_directory(entry));
+        if live.len() > 1 && self.random.percent(80) {
+            live.retain(|&entry| entry != 0);
+        }
         self.random.pick(&live)
     }
 
@@ -335,11 +341,12 @@ impl Generator<'_> {
     pub fn add_path_rule(&mut self) -> Call {
         let ruleset = self.ruleset();
         let entry = match self.random.below(100) {
-            0..25 => 0,
-            25..75 => self.directory(),
+            0..5 => 0,
+            5..30 => TOP,
+            30..75 => self.directory(),
             _ => self.entry(),
         };
-        let handled = self.tables.handled(ruleset)[0];
+        let handled = self.handled_at(ruleset, entry);
         let fitting = if self.tables.is_directory(entry) {
             handled
         } else {
@@ -357,6 +364,17 @@ impl Generator<'_> {
             entry,
             rights,
             flags: self.rule_flags(),
+        }
+    }
+
+    /// The rights that a ruleset handles and that a rule on an entry may mostly ask for: a scenario ends where Linux adds a rule
+    /// that we do not.
+    fn handled_at(&mut self, ruleset: u64, entry: u64) -> u64 {
+        let handled = self.tables.handled(ruleset)[0];
+        if entry == 0 && !self.random.percent(2) {
+            handled & !CHANGING
+        } else {
+            handled
         }
     }
 

@@ -9,7 +9,7 @@ use model::state::{MAX_RULES, MAX_RULESETS, MAX_THREADS};
 pub fn play(scenario: &mut Scenario) -> Result<(), Stop> {
     let fill = scenario
         .random
-        .pick(&[rulesets, rules, domain, layers, pool, threads]);
+        .pick(&[rulesets, rules, root_rule, domain, layers, pool, threads]);
     scenario.ask(Call::SetNoNewPrivs { thread: 0 })?;
     fill(scenario)
 }
@@ -87,6 +87,31 @@ fn rules(scenario: &mut Scenario) -> Result<(), Stop> {
         rights: READ_DIR,
         flags: 0,
     })
+}
+
+/// A rule on the root that grants a right to change something, with refusals that come before EPERM.
+fn root_rule(scenario: &mut Scenario) -> Result<(), Stop> {
+    const NO_FLAGS: u64 = 0;
+    open_ruleset(scenario)?;
+    let changing = known(scenario.tables.level())[0] & CHANGING;
+    let bits: Vec<u64> = (0..16).filter(|bit| changing >> bit & 1 != 0).collect();
+    let right = 1 << scenario.random.pick(&bits);
+    let asked = [
+        (0, READ_DIR, NO_FLAGS),
+        (0, right, 1 << 31),
+        (1, right, NO_FLAGS),
+        (0, right | 1 << 63, NO_FLAGS),
+        (0, right | READ_DIR, NO_FLAGS),
+    ];
+    for (ruleset, rights, flags) in asked {
+        scenario.ask(Call::AddPathRule {
+            ruleset,
+            entry: 0,
+            rights,
+            flags,
+        })?;
+    }
+    Ok(())
 }
 
 /// The last layer that Linux lets a domain have, refusals that come before E2BIG, and one layer more.

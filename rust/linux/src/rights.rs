@@ -7,6 +7,9 @@ pub const READ_DIR: u64 = 1 << 3;
 pub const TRUNCATE: u64 = 1 << 14;
 pub const IOCTL_DEV: u64 = 1 << 15;
 
+/// The rights to change something: all but EXECUTE, READ_FILE, READ_DIR and IOCTL_DEV.
+pub const CHANGING: u64 = 0xffff & !(EXECUTE | READ_FILE | READ_DIR | IOCTL_DEV);
+
 /// The rights that make sense for an entry that is no directory.
 pub const FILE_SET: u64 = EXECUTE | WRITE_FILE | READ_FILE | TRUNCATE | IOCTL_DEV;
 

@@ -9,7 +9,7 @@ use crate::limits;
 use crate::machine::Machine;
 use crate::orders;
 use crate::random::Random;
-use crate::rights::outcome;
+use crate::rights::{outcome, DIRECTORY};
 use crate::tally::Tally;
 use model::call::Call;
 use model::refusal::returned;
@@ -89,6 +89,11 @@ impl<'a> Scenario<'a> {
 
     /// A tree, rulesets with rules, and a thread with a domain of one to four layers.
     fn set_up(&mut self) -> Result<(), Stop> {
+        self.ask(Call::Create {
+            thread: 0,
+            directory: 0,
+            kind: DIRECTORY,
+        })?;
         for _ in 0..self.random.between(6, 30) {
             self.ask_any(|g| g.growth())?;
         }

@@ -118,7 +118,10 @@ impl Choose<'_> {
         };
         let handled = self.handled(ruleset, |masks| masks.fs);
         let kind = self.model.entries.get(&entry).map(|entry| entry.kind);
-        let sensible = handled.common(kind.map_or(Rights::ALL, |kind| kind.rights()));
+        let mut sensible = handled.common(kind.map_or(Rights::ALL, |kind| kind.rights()));
+        if entry == ROOT {
+            sensible = self.at_root(sensible);
+        }
         let rights = self.rights(sensible, handled);
         let flags = self.flags();
         Call::AddPathRule {
@@ -127,6 +130,23 @@ impl Choose<'_> {
             rights,
             flags,
         }
+    }
+
+    /// Of rights, mostly those that a rule on the root may ask for, or these with one more.
+    fn at_root(&mut self, rights: Rights) -> Rights {
+        let fine = rights.without(Rights::CHANGING);
+        match self.random.below(6) {
+            0 => rights,
+            1 | 2 => fine.join(self.one_of(rights)),
+            _ => fine,
+        }
+    }
+
+    /// One of some rights, if there is one.
+    fn one_of(&mut self, rights: Rights) -> Rights {
+        let bits: Vec<u64> = (0..16).filter(|bit| rights.0 >> bit & 1 == 1).collect();
+        let bit = self.random.pick_some(&bits);
+        bit.map_or(Rights::NONE, |bit| Rights(1 << bit))
     }
 
     fn add_port_rule(&mut self) -> Call {
@@ -208,8 +228,7 @@ impl Choose<'_> {
         let entry = self.entry();
         let kind = self.model.entries.get(&entry).map(|entry| entry.kind);
         let sensible = kind.map_or(Rights::ALL, |kind| kind.rights());
-        let bits: Vec<u64> = (0..16).filter(|bit| sensible.0 >> bit & 1 == 1).collect();
-        let one = Rights(1 << self.random.pick(&bits));
+        let one = self.one_of(sensible);
         let rights = self.rights(one, sensible);
         Call::Access {
             thread,

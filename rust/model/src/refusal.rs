@@ -89,6 +89,8 @@ refusals! {
     NoRights ENOMSG;
     RightsNotHandled EINVAL;
     RuleEntryNotLive EBADF;
+    /// A rule on the root that asks for a right to change something.
+    SweepingRule EPERM;
     /// Rights outside the file set, for something other than a directory.
     RightsNotForFile EINVAL;
     PortOutOfRange EINVAL;

@@ -29,6 +29,8 @@ impl Rights {
     pub const ALL: Rights = Rights(0xffff);
     /// The file set: the rights that mean something for other things than directories.
     pub const FILE: Rights = Rights(0b1100_0000_0000_0111);
+    /// The rights to change the tree or what is in a file.
+    pub const CHANGING: Rights = Rights(0b0111_1111_1111_0010);
     /// Every network right.
     pub const NETWORK: Rights = Rights(0b11);
     /// Every scope.

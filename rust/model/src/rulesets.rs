@@ -2,7 +2,7 @@
 
 use crate::refusal::{Answer, Refusal};
 use crate::rights::{Masks, Rights};
-use crate::state::{lowest_free, Key, Model, Ruleset, MAX_PORT, MAX_RULES, MAX_RULESETS};
+use crate::state::{lowest_free, Key, Model, Ruleset, MAX_PORT, MAX_RULES, MAX_RULESETS, ROOT};
 
 const SHORTEST_ATTRIBUTE: usize = 8;
 const LONGEST_ATTRIBUTE: usize = 4096;
@@ -69,13 +69,16 @@ impl Model {
         }
     }
 
-    pub fn add_path_rule(&mut self, ruleset: u64, entry: u64, rights: u64, flags: u64) -> Answer {
+    pub fn add_path_rule(&mut self, ruleset: u64, number: u64, rights: u64, flags: u64) -> Answer {
         let rights = Rights(rights);
         let handled = self.rule_target(ruleset, rights, flags)?.masks.fs;
         if !rights.within(handled) {
             return Err(Refusal::RightsNotHandled);
         }
-        let entry = *self.entries.get(&entry).ok_or(Refusal::RuleEntryNotLive)?;
+        let entry = *self.entries.get(&number).ok_or(Refusal::RuleEntryNotLive)?;
+        if number == ROOT && rights.meets(Rights::CHANGING) {
+            return Err(Refusal::SweepingRule);
+        }
         if !rights.within(entry.kind.rights()) {
             return Err(Refusal::RightsNotForFile);
         }

@@ -37,6 +37,7 @@ const REFUSALS: [(&str, &[Refusal]); 17] = [
             NoRights,
             RightsNotHandled,
             RuleEntryNotLive,
+            SweepingRule,
             RightsNotForFile,
             RulesetFull,
         ],

@@ -8,6 +8,7 @@ use model::rights::{Masks, Rights};
 use model::scenario::scenario;
 use model::shrink::shrink;
 use model::sound::{check, Unsound};
+use model::state::Key;
 use model::tables::{encode_into, Table, Tables};
 use model::tally::Tally;
 
@@ -136,6 +137,55 @@ impl Broker for ReferByDomain {
 fn refer_by_domain_is_found() {
     let (case, text) = found_refused_for_refer(&mut ReferByDomain);
     assert_eq!(case.start.layers.len(), 2, "{text}");
+}
+
+/// Adds rules on the root that ask for a right to change something, where a test holds of the
+/// rights that the rule on the root has and of those asked for.
+struct Sweeping(fn(Rights, Rights) -> bool);
+
+impl Broker for Sweeping {
+    fn answer(&mut self, tables: &mut Tables, call: &Call) -> Reply {
+        if let (
+            Call::AddPathRule {
+                ruleset, rights, ..
+            },
+            Ok(mut model),
+        ) = (call, check(tables))
+        {
+            let refused = model.answer(call).0 == Err(Refusal::SweepingRule);
+            let rules = model.rulesets.get_mut(ruleset).map(|open| &mut open.rules);
+            if let (true, Some(rules)) = (refused, rules) {
+                let root = Key::Object(0);
+                if (self.0)(rules.granted(root), Rights(*rights)) {
+                    rules.add(root, Rights(*rights));
+                    encode_into(&model, tables);
+                    return Reply::of(Ok(0), Vec::new());
+                }
+            }
+        }
+        Rereading.answer(tables, call)
+    }
+}
+
+/// A case of one call, to which the model answers EPERM.
+fn found_sweeping(test: fn(Rights, Rights) -> bool) {
+    let (case, difference) = found(&mut Sweeping(test));
+    let text = scenario(&case, &difference);
+    assert_eq!(case.steps.len(), 1, "{text}");
+    assert!(text.contains("=> EPERM\n"), "{text}");
+}
+
+#[test]
+fn a_granted_right_that_is_joined_is_found() {
+    found_sweeping(|granted, asked| asked.within(granted));
+}
+
+#[test]
+fn a_right_that_is_left_out_is_found() {
+    found_sweeping(|_, asked| {
+        let others = Rights::CHANGING.without(Rights::TRUNCATE);
+        !asked.meets(others)
+    });
 }
 
 /// Clones without the admin mark.

@@ -133,6 +133,54 @@ fn path_rule_order() {
     fill(&mut model, narrow);
     refused(&model, path_rule(narrow, 3, 8, 0), RightsNotForFile);
     refused(&model, path_rule(narrow, 1, 8, 0), RulesetFull);
+    refused(&model, path_rule(narrow, 0, 2, 0), RightsNotHandled);
+    refused(&model, path_rule(narrow, 0, 8, 0), RulesetFull);
+    refused(&model, path_rule(0, 99, 2, 0), RuleEntryNotLive);
+    refused(&model, path_rule(0, 0, 2, 0), SweepingRule);
+    fill(&mut model, 0);
+    refused(&model, path_rule(0, 0, 2, 0), SweepingRule);
+    refused(&model, path_rule(0, 1, 2, 0), RulesetFull);
+}
+
+/// Whether a rule on the root may not ask for a right alone, by its bit.
+fn is_sweeping(bit: u64) -> bool {
+    matches!(bit, 1 | 4..=14)
+}
+
+#[test]
+fn a_rule_on_the_root_changes_nothing() {
+    let mut model = sample();
+    for bit in 0..16 {
+        if is_sweeping(bit) {
+            refused(&model, path_rule(0, 0, 1 << bit, 0), SweepingRule);
+            refused(&model, path_rule(0, 0, 1 << bit | 4, 0), SweepingRule);
+        } else {
+            assert_eq!(model.add_path_rule(0, 0, 1 << bit, 0), Ok(0));
+        }
+    }
+    refused(&model, path_rule(0, 0, 0xffff, 0), SweepingRule);
+    assert_eq!(
+        model.rulesets[&0].rules.granted(Key::Object(0)),
+        Rights(0x800d)
+    );
+    assert_eq!(model.add_path_rule(0, 1, 0xffff, 0), Ok(0));
+}
+
+/// Tables with such a rule are sound and serve as before; the rule is neither joined nor added again.
+#[test]
+fn a_sweeping_rule_that_is_there_stays() {
+    let mut model = sample();
+    let rules = &mut model.rulesets.get_mut(&0).unwrap().rules;
+    rules.add(Key::Object(0), Rights::ALL);
+    refused(&model, path_rule(0, 0, 2, 0), SweepingRule);
+    unchanged(&model, path_rule(0, 0, 4, 0), Ok(0));
+    model.restrict(0, 0, 0).unwrap();
+    let access = Call::Access {
+        thread: 0,
+        entry: 0,
+        rights: 0xffff,
+    };
+    unchanged(&model, access, Ok(0));
 }
 
 #[test]
@@ -422,10 +470,14 @@ fn uneven(richer: u64) -> Model {
         ..Ruleset::default()
     };
     model.rulesets.insert(15, ruleset);
-    model.add_path_rule(15, 0, Rights::REFER.0, 0).unwrap();
-    model
-        .add_path_rule(15, richer, Rights::EXECUTE.0, 0)
-        .unwrap();
+    for directory in [1, 2] {
+        let rights = if directory == richer {
+            fs
+        } else {
+            Rights::REFER
+        };
+        model.add_path_rule(15, directory, rights.0, 0).unwrap();
+    }
     model.restrict(0, 15, 0).unwrap();
     model
 }

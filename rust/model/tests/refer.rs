@@ -14,7 +14,7 @@ const REFER: u64 = Rights::REFER.0;
 const REGULAR: u64 = 1;
 const DIRECTORY: u64 = 2;
 
-/// The three masks of a layer, which grants all that its file system mask has at the root.
+/// The three masks of a layer, which grants all that its file system mask has in both directories.
 type Asked = [u64; 3];
 
 const NET: Asked = [0, 1, 0];
@@ -42,8 +42,12 @@ fn under(layers: &[Asked]) -> Model {
     for masks in layers {
         let bytes: Vec<u8> = masks.iter().flat_map(|mask| mask.to_le_bytes()).collect();
         let ruleset = model.create_ruleset(&bytes, 0).unwrap();
-        if masks[0] != 0 {
-            model.add_path_rule(ruleset, 0, masks[0], 0).unwrap();
+        for directory in [1, 2] {
+            if masks[0] != 0 {
+                model
+                    .add_path_rule(ruleset, directory, masks[0], 0)
+                    .unwrap();
+            }
         }
         model.restrict(0, ruleset, 0).unwrap();
     }

@@ -76,6 +76,9 @@ pub fn reason(played: &Played) -> Option<String> {
         (Call::Ruleset(RulesetCall::Restrict { .. }), Errno::EPERM) => {
             "the thread has neither no_new_privs nor admin set"
         }
+        (Call::Ruleset(RulesetCall::AddPath { .. }), Errno::EPERM) => {
+            "a rule on the root asks for a right to change something"
+        }
         _ => errno.description(),
     };
     Some(format!("{errno}: {reason}"))

@@ -218,11 +218,12 @@ fn a_layer_has_the_rules_of_its_ruleset() {
     let text = "\
 create_ruleset fs=6 -> r => new 0
 set_admin main on => 0
-add_path_rule r root 2 => 0
-add_path_rule r root 4 => 0
-restrict main r => 0
 create main root directory -> d => new 1
+create main root directory -> e => new 2
+add_path_rule r d 2 => 0
 add_path_rule r d 4 => 0
+restrict main r => 0
+add_path_rule r e 4 => 0
 create_ruleset fs=1 -> empty => new 1
 restrict main empty => 0
 layer_rules 0 => 0
@@ -238,7 +239,7 @@ layer_rules 2 => EBADF
     let [rule] = joined.at("rules").list() else {
         panic!("one rule");
     };
-    assert_eq!(rule.at("object").number(), 0);
+    assert_eq!(rule.at("object").number(), 1);
     assert_eq!(rule.at("rights").texts(), ["write_file", "read_file"]);
     assert!(none.at("rules").list().is_empty() && unused.at("rules").list().is_empty());
 }

@@ -48,14 +48,17 @@ impl Tables {
     /// Grants rights at an entry's object and below it; joins them to a rule that is there.
     ///
     /// Refusals, in order: tables not sound, EIO; level 0, EOPNOTSUPP; flags not 0, EINVAL; ruleset not open, EBADF; rights
-    /// empty, ENOMSG; rights outside those handled, EINVAL (REFER must be asked for); entry not live, EBADF; entry no directory
-    /// and rights outside the file set, EINVAL; a new object with 64 rules there, E2BIG.
+    /// empty, ENOMSG; rights outside those handled, EINVAL (REFER must be asked for); entry not live, EBADF; the root and one of
+    /// the rights [`AccessFs::NOT_AT_ROOT`], EPERM, whatever is granted there already; entry no directory and rights outside the
+    /// file set, EINVAL; a new object with 64 rules there, E2BIG.
     ///
     /// ```
     /// # use skeinrabbit::*;
     /// let mut tables = Tables::new(Level::LATEST)?;
-    /// let ruleset = tables.ruleset().handle_fs(AccessFs::READ_FILE).create()?.keep();
+    /// let handled = AccessFs::READ_FILE | AccessFs::WRITE_FILE;
+    /// let ruleset = tables.ruleset().handle_fs(handled).create()?.keep();
     /// assert_eq!(tables.add_path_rule(ruleset, Entry::ROOT, AccessFs::READ_FILE, 0), Ok(()));
+    /// assert_eq!(tables.add_path_rule(ruleset, Entry::ROOT, AccessFs::WRITE_FILE, 0), Err(Errno::EPERM));
     /// assert_eq!(tables.add_path_rule(ruleset, Entry::ROOT, AccessFs::REFER, 0), Err(Errno::EINVAL));
     /// # Ok::<(), Errno>(())
     /// ```

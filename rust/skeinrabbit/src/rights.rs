@@ -183,6 +183,22 @@ impl AccessFs {
             | AccessFs::IOCTL_DEV.0,
     );
 
+    /// The rights to change something, which no rule on the root may ask for.
+    pub const NOT_AT_ROOT: AccessFs = AccessFs(
+        AccessFs::WRITE_FILE.0
+            | AccessFs::REMOVE_DIR.0
+            | AccessFs::REMOVE_FILE.0
+            | AccessFs::MAKE_CHAR.0
+            | AccessFs::MAKE_DIR.0
+            | AccessFs::MAKE_REG.0
+            | AccessFs::MAKE_SOCK.0
+            | AccessFs::MAKE_FIFO.0
+            | AccessFs::MAKE_BLOCK.0
+            | AccessFs::MAKE_SYM.0
+            | AccessFs::REFER.0
+            | AccessFs::TRUNCATE.0,
+    );
+
     /// The rights that read.
     const READ: AccessFs =
         AccessFs(AccessFs::EXECUTE.0 | AccessFs::READ_FILE.0 | AccessFs::READ_DIR.0);

@@ -187,6 +187,26 @@ fn layered() -> Tables {
 }
 
 #[test]
+fn a_rule_on_the_root_grants_no_change() {
+    assert_eq!(AccessFs::NOT_AT_ROOT.bits(), 32_754);
+    let mut tables = Tables::new(Level::LATEST).unwrap();
+    let attribute = Attribute {
+        fs: AccessFs::ALL,
+        ..Attribute::default()
+    };
+    let ruleset = tables.create_ruleset(&attribute.to_bytes(), 0).unwrap();
+    for right in AccessFs::ALL.iter() {
+        let expected = if AccessFs::NOT_AT_ROOT.contains(right) {
+            Err(Errno::EPERM)
+        } else {
+            Ok(())
+        };
+        let answer = tables.add_path_rule(ruleset, Entry::ROOT, right, 0);
+        assert_eq!(answer, expected, "{right}");
+    }
+}
+
+#[test]
 fn the_rules_of_a_layer_are_a_part_of_the_pool() {
     let tables = layered();
     let pool = tables.cells().pool.as_ptr_range();

@@ -18,12 +18,14 @@ path-form-spec =
     (λ c κs. tt)
     (λ c. rw (← c .before .before .before .before .before .before .row-read .ensures) (first-is (search refusals depth 16)))
     (λ c κs. tt)
+    (λ c. rw (← c .before .before .before .before .before .before .before .before .row-read .ensures) (first-is (search refusals depth 16)))
+    (λ c κs. tt)
     (λ c κs. tt)
     (λ c.
     let o = c .before .before in
-    let f = o .before .before .before .before .before in
+    let f = o .before .before .before .before .before .before .before in
     rw (← f .before .before .row-read .ensures, ← o .object-of .ensures) (first-is (miss-not (f .before .contains .ensures) (f .if1 .left) (search refusals depth 16))))
     (λ c.
     let o = c .before .before in
-    let f = o .before .before .before .before .before in
+    let f = o .before .before .before .before .before .before .before in
     rw (← f .before .before .row-read .ensures, ← o .object-of .ensures) (first-is (miss-not (f .before .contains .ensures) (f .if1 .left) (search refusals depth 16)))))
