@@ -166,9 +166,10 @@ fn rules(
     random: &mut Random,
 ) -> Rules {
     let mut rules = Rules::default();
+    let ports = port_limit(masks, count);
     for _ in 0..3 * count {
         if rules.len() < (count as usize).min(MAX_RULES) {
-            let (key, rights) = rule(entries, model, masks, random);
+            let (key, rights) = rule(entries, model, masks, ports, random);
             if !rights.is_empty() {
                 rules.add(key, rights);
             }
@@ -177,9 +178,15 @@ fn rules(
     rules
 }
 
-fn rule(entries: &[Entry], model: &Model, masks: &Masks, random: &mut Random) -> (Key, Rights) {
+fn rule(
+    entries: &[Entry],
+    model: &Model,
+    masks: &Masks,
+    ports: u64,
+    random: &mut Random,
+) -> (Key, Rights) {
     if !masks.net.is_empty() && random.chance(30) {
-        let port = random.below(port_limit(masks));
+        let port = random.below(ports);
         return (Key::Port(port), some_of(masks.net, random));
     }
     if random.chance(10) {
@@ -200,9 +207,10 @@ fn rule(entries: &[Entry], model: &Model, masks: &Masks, random: &mut Random) ->
     (Key::Object(entry.object), rights)
 }
 
-/// Few ports where both rights are handled, so that requests meet them; else any.
-fn port_limit(masks: &Masks) -> u64 {
-    if masks.net == Rights::NETWORK {
+/// Few ports where both rights are handled, so that requests meet them; any where there are many
+/// rules, so that they come to as many.
+fn port_limit(masks: &Masks, rules: u64) -> u64 {
+    if masks.net == Rights::NETWORK && rules <= 20 {
         20
     } else {
         65_536
