@@ -10,19 +10,21 @@ use Rattle.laws.proofs.Bools.{split}
 use Rattle.laws.specs.Cells.{putCell}
 use Rattle.access.specs.Errno.{EIO}
 use Rattle.access.specs.declared.errno.Reply.the-variants.{Done}
-use Rattle.tables.specs.Tables.{Tables, threadWidth}
+use Rattle.tables.specs.Tables.{Tables, tables, threadWidth, youngest}
 use Rattle.tables.specs.Layers.{layerAt}
 use Rattle.tables.specs.Outcome.{Outcome, outcome, errorOf, answer, withThreads}
 use Rattle.tables.proofs.Outcomes.{answer-done}
 use Rattle.sound.specs.Sound.{sound}
 use Rattle.sound.specs.Call.{call}
-use Rattle.domain.specs.Threads.{freeThread, copiedThread, cloneChecks, cloneDone, markChecks, markDone}
+use Rattle.domain.specs.Threads.{freeThread, copiedThread, heldMore, cloneChecks, cloneDone, markChecks, markDone}
 use Rattle.domain.specs.Layer.{layerChecks, layerRead, layerCode, layerPart}
 
 -- ---- threads
-pub clone-done : (T : Tables) (t : ℕ) {e u : ℕ} {ts : List ℕ} → e ≡ first (cloneChecks T t) → e ≡ 0 → u ≡ freeThread (T .threads) → ts ≡ copiedThread (T .threads) u t → outcome (Done u) (withThreads T ts) ≡ answer T (cloneChecks T t) (cloneDone T t)
+pub clone-done : (T : Tables) (t : ℕ) {e u : ℕ} {ls ts : List ℕ} → e ≡ first (cloneChecks T t) → e ≡ 0 → u ≡ freeThread (T .threads) → ts ≡ copiedThread (T .threads) u t
+    → ls ≡ heldMore (T .layers) (youngest (T .threads) t)
+    → outcome (Done u) (tables (T .system) (T .entries) (T .rulesets) ls (T .pool) ts) ≡ answer T (cloneChecks T t) (cloneDone T t)
 unfolding cloneDone
-clone-done T t q z f h = rw (h, f) (answer-done T (cloneChecks T t) (cloneDone T t) q z)
+clone-done T t q z f h k = rw (k, h, f) (answer-done T (cloneChecks T t) (cloneDone T t) q z)
 
 pub mark-done : (T : Tables) (t k v : ℕ) {e : ℕ} {ts : List ℕ} → e ≡ first (markChecks T t) → e ≡ 0 → ts ≡ putCell (T .threads) threadWidth t k v → outcome (Done 0) (withThreads T ts) ≡ answer T (markChecks T t) (markDone T t k v)
 unfolding markDone

@@ -12,7 +12,7 @@ ghost use Rattle.tables.specs.Tables.{layerWidth, threadWidth};
 ghost use Rattle.sound_domains.specs.Domains.{chainEnds, threadSound, threadsSound};
 
 // From a layer (its number + 1, or 0 for none) the parents come to none within the limit of a domain. A layer past the table has none.
-fn chain_ends(layers: &[u64], y: u64) -> bool
+pub fn chain_ends(layers: &[u64], y: u64) -> bool
     requires { ⌜ length (now layers) ≡ layerWidth * maxLayers ⌝ }
     ensures { λ r. ⌜ r ≡ chainEnds (now (layers .entry)) maxDomain y ⌝ }
 {
@@ -64,7 +64,7 @@ fn thread_sound(layers: &[u64], threads: &[u64], used: u64, t: usize) -> bool
     chain_ends(layers, youngest)
 }
 
-// The threads are sound; `used` layers are in use.
+// The threads are sound; `used` is the number of layer records.
 pub fn threads_sound(layers: &[u64], threads: &[u64], used: u64) -> bool
     requires { ⌜ (length (now layers) ≡ layerWidth * maxLayers) × (length (now threads) ≡ threadWidth * maxThreads) ⌝ }
     ensures { λ r. ⌜ r ≡ threadsSound (now (layers .entry)) (now (threads .entry)) used ⌝ }
