@@ -12,8 +12,6 @@ use Rattle.sound_domains.specs.Counting.{countRows}
 use Rattle.sound_domains.proofs.Counting.{count-few, all-placed}
 use Rattle.sound_holders.proofs.hierarchy_sound.Statement.{statement}
 use Rattle.sound_holders.proofs.hierarchy_sound.Tie as tie
-use Rattle.sound_holders.proofs.hierarchy_sound.Reads as reads
-use Rattle.sound_holders.proofs.hierarchy_sound.Lts as lts
 
 pub hierarchy-sound-spec : {M : Type 1} → statement M
 hierarchy-sound-spec =

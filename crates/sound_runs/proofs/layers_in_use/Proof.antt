@@ -7,7 +7,8 @@ use borrow.Author.Needs.{needs}
 use Rattle.laws.specs.Sums.{tally}
 use Rattle.access.specs.Limits.{maxLayers}
 use Rattle.tables.specs.Layers.{layerInUse}
-use Rattle.sound_layers.proofs.Records.{held-none, held-some, sum-start, tally-yes, tally-no}
+use Rattle.laws.proofs.Sums.{sum-start, tally-yes, tally-no}
+use Rattle.sound_layers.proofs.Records.{held-none, held-some}
 use Rattle.sound_runs.proofs.layers_in_use.Statement.{statement}
 use Rattle.sound_runs.proofs.layers_in_use.Tie as tie
 

@@ -6,7 +6,7 @@ use borrow.Author.Needs.{needs}
 use Rattle.laws.specs.Sums.{sumBelow}
 use Rattle.access.specs.Limits.{maxLayers, maxRules}
 use Rattle.tables.specs.Layers.{layerCount}
-use Rattle.sound_layers.proofs.Records.{sum-start, sum-more}
+use Rattle.laws.proofs.Sums.{sum-start, sum-more}
 use Rattle.sound_runs.proofs.rules_in_use.Statement.{statement}
 use Rattle.sound_runs.proofs.rules_in_use.Tie as tie
 
