@@ -8,8 +8,6 @@ use Rattle.sound_domains.specs.Counting.{countRows}
 use Rattle.sound_domains.proofs.Counting.{count-none, count-more, count-few}
 use Rattle.sound_holders.proofs.count_rows.Statement.{statement}
 use Rattle.sound_holders.proofs.count_rows.Tie as tie
-use Rattle.sound_holders.proofs.count_rows.Reads as reads
-use Rattle.sound_holders.proofs.count_rows.Lts as lts
 
 abbrev Inv-loop : tie.InvT-loop
 Inv-loop counts₀ table width k n i₀ counts i = (i ≤ n) × (counts ≡ countRows counts₀ table width k i) × (length counts ≡ length counts₀)
