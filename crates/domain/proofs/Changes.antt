@@ -41,11 +41,11 @@ module _ (ls : List ℕ) (y : ℕ) where
   more-one d q h = let e : y ≡ suc (y - 1) = omega arith in h ∙ rw q (sym (ap (heldMore ls) e ∙ more-cons ls (y - 1)))
 
 -- ---- threads
-pub clone-done : (T : Tables) (t : ℕ) {e u : ℕ} {ls ts : List ℕ} → e ≡ first (cloneChecks T t) → e ≡ 0 → u ≡ freeThread (T .threads) → ts ≡ copiedThread (T .threads) u t
-    → ls ≡ heldMore (T .layers) (youngest (T .threads) t)
+pub clone-done : (T : Tables) (t : ℕ) {e u y : ℕ} {ls ts : List ℕ} → e ≡ first (cloneChecks T t) → e ≡ 0 → u ≡ freeThread (T .threads) → ts ≡ copiedThread (T .threads) u t
+    → y ≡ youngest (T .threads) t → ls ≡ heldMore (T .layers) y
     → outcome (Done u) (tables (T .system) (T .entries) (T .rulesets) ls (T .pool) ts) ≡ answer T (cloneChecks T t) (cloneDone T t)
 unfolding cloneDone
-clone-done T t q z f h k = rw (k, h, f) (answer-done T (cloneChecks T t) (cloneDone T t) q z)
+clone-done T t q z f h k m = rw (m, k, h, f) (answer-done T (cloneChecks T t) (cloneDone T t) q z)
 
 pub mark-done : (T : Tables) (t k v : ℕ) {e : ℕ} {ts : List ℕ} → e ≡ first (markChecks T t) → e ≡ 0 → ts ≡ putCell (T .threads) threadWidth t k v → outcome (Done 0) (withThreads T ts) ≡ answer T (markChecks T t) (markDone T t k v)
 unfolding markDone
