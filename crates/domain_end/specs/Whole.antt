@@ -1,15 +1,13 @@
 -- Document 02, W13: what the end of a thread leaves, said as a whole.
 use mathlib.Core.Path.{_≡_}
 use mathlib.Core.Bool.{Bool, true, false, cond, not, _&&_}
-use mathlib.Core.List.{List}
-use Prim.Native.Nat.{ℕ, suc, _*_, _≤_, _<_}
+use Prim.Native.Nat.{ℕ, suc, _<_}
 use lib.Dec.{eqb, ltb}
-use lib.ListN.{getD}
 use Rattle.laws.specs.Tests.{anyBelow, elem}
 use Rattle.laws.specs.Sums.{sumBelow, tally}
 use Rattle.laws.specs.Cells.{cell, zeroRow}
 use Rattle.access.specs.Limits.{maxLayers, maxThreads}
-use Rattle.tables.specs.Tables.{Tables, layerWidth, ruleWidth, threadWidth, level, counter, layersUsed, poolUsed, threadLive}
+use Rattle.tables.specs.Tables.{Tables, layerWidth, threadWidth, level, counter, layersUsed, poolUsed, threadLive}
 use Rattle.tables.specs.Layers.{layerParent, layerFirst, layerCount, layerHolders, layerAt, layerInUse}
 use Rattle.judge.specs.Domain.{domain}
 use Rattle.sound_domains.specs.Domains.{holders}

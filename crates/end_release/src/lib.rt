@@ -70,7 +70,11 @@ fn cell_after(pool: &[u64], at: usize, more: usize) -> u64
     requires { ⌜ at < length (now pool) ⌝ }
     ensures { λ r. ⌜ r ≡ getD (now (pool .entry)) (at + more) 0 ⌝ }
 {
-    if more < pool.len() - at { pool[at + more] } else { 0 }
+    if more < pool.len() - at {
+        pool[at + more]
+    } else {
+        0
+    }
 }
 
 // Closes up the pool over a run: what stands after it moves down, and zeros come in at the end.

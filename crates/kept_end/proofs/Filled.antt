@@ -1,15 +1,14 @@
 -- A used pool that is filled: every place is in the run of one layer in use, and a run begins where those before it end. Assumes nothing.
 use mathlib.Core.Path.{_≡_, refl, sym, ap, _∙_}
-use mathlib.Core.Bool.{Bool, true, false, cond, _&&_}
+use mathlib.Core.Bool.{Bool, true, cond, _&&_}
 use mathlib.Core.List.{List}
-use mathlib.Core.Logic.{_⊎_, inl, inr}
-use Prim.Native.Nat.{ℕ, zero, suc, _+_, _-_, _*_, _≤_, _<_, min}
+use Prim.Native.Nat.{ℕ, zero, suc, _+_, _-_, _≤_, _<_, min}
 use native.Mathlib.Nat.{le-refl}
 use native.Mathlib.Omega.{arith}
 use lib.Dec.{eqb, ltb, leb}
-use borrow.Author.Tests.{eqb-true, eqb-false, eq-eqb, ltb-true, ltb-false, lt-ltb, le-ltb, leb-true, leb-false, le-leb, lt-leb}
+use borrow.Author.Tests.{eqb-true, eqb-false, ltb-true, ltb-false, leb-true, leb-false}
 use Rattle.laws.specs.Sums.{sumBelow, bit, tally}
-use Rattle.laws.proofs.Bools.{split, either, clash, and-l, and-r, both}
+use Rattle.laws.proofs.Bools.{split, either, and-l, and-r, both}
 use Rattle.laws.proofs.Sums.{bit-yes, bit-no, bit-few, sum-same, sum-none, tally-find}
 use Rattle.access.specs.Limits.{maxLayers}
 use Rattle.tables.specs.Layers.{layerFirst, layerCount, layerInUse}

@@ -9,17 +9,16 @@ use lib.Dec.{eqb, ltb}
 use lib.ListN.{length, getD}
 use lib.Seq.{ext-getD}
 use borrow.Author.Tests.{eqb-true, eqb-false, ltb-true, ltb-false}
-use Rattle.laws.specs.Cells.{cell, part}
+use Rattle.laws.specs.Cells.{cell}
 use Rattle.laws.proofs.Bools.{split}
 use Rattle.laws.proofs.Cells.{part-at}
-use Rattle.access.specs.Limits.{maxLayers, maxPool, maxThreads}
-use Rattle.tables.specs.Tables.{Tables, tables, systemWidth, layerWidth, ruleWidth, level, counter, layersUsed, poolUsed, youngest}
+use Rattle.access.specs.Limits.{maxLayers}
+use Rattle.tables.specs.Tables.{Tables, tables, layerWidth, ruleWidth, level, counter, layersUsed, poolUsed, youngest}
 use Rattle.tables.specs.Layers.{Layer, layerParent, layerFirst, layerCount, layerHolders, layerAt}
-use Rattle.sound_domains.specs.Domains.{holders}
 use Rattle.sound_domains.proofs.Holders.{holders-same}
 use Rattle.sound.proofs.Facts.{Sound}
 use Rattle.domain_end.specs.Whole.{reachedBut, Ended}
-use Rattle.kept_end.proofs.Filled.{inRun, inside-at, place-filled}
+use Rattle.kept_end.proofs.Filled.{inside-at, place-filled}
 
 -- two tables of n rows of w cells with the same cells
 rows-ext : (xs ys : List ℕ) (w n : ℕ) → 0 < w → length xs ≡ w * n → length ys ≡ w * n → ((l k : ℕ) → l < n → k < w → cell xs w l k ≡ cell ys w l k) → xs ≡ ys

@@ -2,33 +2,32 @@
 use mathlib.Core.Path.{_≡_, refl, sym, ap, _∙_}
 use mathlib.Core.Bool.{Bool, true, false, cond, not, _&&_}
 use mathlib.Core.List.{List}
-use mathlib.Core.Logic.{_⊎_, inl, inr}
-use Prim.Native.Nat.{ℕ, zero, suc, _+_, _-_, _*_, _≤_, _<_}
+use Prim.Native.Nat.{ℕ, zero, suc, _-_, _≤_, _<_}
 use native.Mathlib.Omega.{arith}
 use lib.Dec.{eqb, ltb}
-use lib.ListN.{length, getD}
-use borrow.Author.Tests.{eqb-true, eqb-false, eq-eqb, ne-eqb, ltb-true, ltb-false, lt-ltb, not-true}
+use lib.ListN.{getD}
+use borrow.Author.Tests.{eqb-true, eqb-false, ne-eqb, ltb-true, ltb-false, lt-ltb, not-true}
 use Rattle.laws.specs.Tests.{anyBelow, elem}
-use Rattle.laws.specs.Sums.{sumBelow, bit, tally}
-use Rattle.laws.specs.Cells.{cell, zeroRow}
-use Rattle.laws.proofs.Bools.{split, either, clash, and-l, and-r, both, agree, not-of-false}
+use Rattle.laws.specs.Sums.{bit}
+use Rattle.laws.specs.Cells.{zeroRow}
+use Rattle.laws.proofs.Bools.{split, either, clash, and-l, and-r, agree}
 use Rattle.laws.proofs.Tests.{none-of, any-found}
 use Rattle.laws.proofs.Sums.{sum-same}
 use Rattle.access.specs.Limits.{maxLayers, maxThreads, maxDomain}
-use Rattle.tables.specs.Tables.{Tables, layerWidth, threadWidth, level, counter, layersUsed, poolUsed, youngest, threadLive}
+use Rattle.tables.specs.Tables.{Tables, threadWidth, level, counter, layersUsed, poolUsed, youngest, threadLive}
 use Rattle.tables.specs.Layers.{layerParent, layerFirst, layerCount, layerHolders, layerAt, layerInUse}
 use Rattle.tables.specs.Outcome.{withThreads}
 use Rattle.judge.specs.Domain.{domain}
 use Rattle.sound_domains.specs.Domains.{chainEnds}
 use Rattle.sound_domains.proofs.Hierarchy.{no-due}
 use Rattle.sound.proofs.Facts.{Owing, Sound}
-use Rattle.domain_end.specs.End.{poolClosed, lowered, released, unheld, putLayer, ended}
+use Rattle.domain_end.specs.End.{released, unheld, putLayer, ended}
 use Rattle.domain_end.specs.Whole.{reachedBut, rulesBefore, placeOf, Ended}
 use Rattle.kept_domains.proofs.Threads.{live-below}
 use Rattle.kept_domains.proofs.Counts.{layer-recounted}
 use Rattle.kept_end.proofs.Release.{less-beside, less-in-use, less-free, layer-stands, moved}
-use Rattle.kept_end.proofs.Put.{both-other, in-use, less-same, less-used, released-owing, step-ends, domain-in-use, put-entries}
-use Rattle.kept_end.proofs.End.{gone, left-owing, thread, live-other, live-same, ended-sound, ended-rows, ended-lives, ended-domain, ended-entries}
+use Rattle.kept_end.proofs.Put.{both-other, in-use, less-same, less-used, released-owing, step-ends}
+use Rattle.kept_end.proofs.End.{left-owing, thread, live-other, live-same, ended-sound, ended-rows, ended-lives, ended-domain, ended-entries}
 use Rattle.kept_end.proofs.Reached.{in-use-reached, reached-in-use}
 use Rattle.kept_end.proofs.Filled.{run-begins}
 

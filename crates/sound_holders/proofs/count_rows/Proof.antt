@@ -1,8 +1,7 @@
 -- The invariant: the rows below `i` are counted. Assumes nothing.
 use mathlib.Core.Path.{_≡_, refl, ap, _∙_}
-use Prim.Native.Nat.{ℕ, _≤_, _-_, _+_}
+use Prim.Native.Nat.{_≤_, _-_, _+_}
 use native.Mathlib.Omega.{arith}
-use borrow.Author.Needs.{needs}
 use lib.ListN.{length, getD}
 use Rattle.sound_domains.specs.Counting.{countRows}
 use Rattle.sound_domains.proofs.Counting.{count-none, count-more, count-few}

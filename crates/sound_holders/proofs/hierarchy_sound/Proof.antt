@@ -20,12 +20,15 @@ hierarchy-sound-spec =
     (λ c. refl)
     (λ c κs. (omega arith, λ l. let z = getD-zeros maxLayers l in omega arith))
     (λ c. sym (c .before .before .count-rows .kept .0))
-    (λ c κs. (omega arith, λ l.
-    let w = c .before .before in
-    let a = w .before .before .before .before .args in
-    let f = count-few (replicate maxLayers 0) (a .layers .now) layerWidth 0 0 (λ j. let z = getD-zeros maxLayers j in omega arith) maxLayers l in
-    let g : getD (w .count-rows .last .0) l 0 ≤ 0 + maxLayers = rw (w .count-rows .ensures) f in
-    omega arith))
+    (λ c κs. (
+      omega arith,
+      λ l.
+          let w = c .before .before in
+          let a = w .before .before .before .before .args in
+          let f = count-few (replicate maxLayers 0) (a .layers .now) layerWidth 0 0 (λ j. let z = getD-zeros maxLayers j in omega arith) maxLayers l in
+          let g : getD (w .count-rows .last .0) l 0 ≤ 0 + maxLayers = rw (w .count-rows .ensures) f in
+          omega arith,
+    ))
     (λ c. let w = c .before .before in sym (w .count-rows2 .kept .0 ∙ w .before .before .before .count-rows .kept .0))
     (λ c κs. search needs)
     (λ c.

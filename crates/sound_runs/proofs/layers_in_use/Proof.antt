@@ -1,7 +1,7 @@
 -- The invariant: `n` of the layers below `l` are in use. Assumes nothing.
 use mathlib.Core.Path.{_≡_, ap, _∙_}
 use mathlib.Core.Logic.{⊎-elim}
-use Prim.Native.Nat.{ℕ, _≤_, _-_}
+use Prim.Native.Nat.{_≤_, _-_}
 use native.Mathlib.Omega.{arith}
 use borrow.Author.Needs.{needs}
 use Rattle.laws.specs.Sums.{tally}
@@ -32,10 +32,12 @@ layers-in-use-spec =
     (λ c. omega arith)
     (λ c.
     let l = c .before .before .before .loop in
-    let ls = c .before .before .before .before .args .layers .now in
-    (omega arith, ⊎-elim (λ w. let q = w .1 in omega arith) (λ w. let q = w .1 in omega arith) (c .if1 .came),
-    ⊎-elim (λ w. w .1 ∙ tally-yes (layerInUse ls) (l .l) (l .n) (l .inv .2) (held-some ls (l .l) (w .0 .taken)))
-    (λ w. w .1 ∙ tally-no (layerInUse ls) (l .l) (l .n) (l .inv .2) (held-none ls (l .l) (w .0 .left))) (c .if1 .came)))
+    let ls = c .before .before .before .before .args .layers .now in (
+      omega arith,
+      ⊎-elim (λ w. let q = w .1 in omega arith) (λ w. let q = w .1 in omega arith) (c .if1 .came),
+      ⊎-elim (λ w. w .1 ∙ tally-yes (layerInUse ls) (l .l) (l .n) (l .inv .2) (held-some ls (l .l) (w .0 .taken)))
+          (λ w. w .1 ∙ tally-no (layerInUse ls) (l .l) (l .n) (l .inv .2) (held-none ls (l .l) (w .0 .left))) (c .if1 .came),
+    ))
     (λ c.
     let l = c .before .loop in
     let e : l .l ≡ maxLayers = omega arith in
