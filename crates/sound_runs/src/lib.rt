@@ -12,12 +12,10 @@ ghost use mathlib.Core.Path.{_≡_};
 ghost use Prim.Native.Nat.{_*_, _<_, _≤_};
 ghost use lib.ListN.{length};
 ghost use Rattle.laws.specs.Tests.{allBelow};
-ghost use Rattle.laws.specs.Sums.{sumBelow, tally};
 ghost use Rattle.access.specs.Limits.{maxEntries, maxLayers, maxPool};
 ghost use Rattle.tables.specs.Tables.{entryWidth, layerWidth, ruleWidth};
-ghost use Rattle.tables.specs.Layers.{layerCount, layerInUse};
 ghost use Rattle.sound_objects.specs.Objects.{Indexed};
-ghost use Rattle.sound_layers.specs.Layers.{runSound, poolRest, layersSound};
+ghost use Rattle.sound_layers.specs.Layers.{layersCounted, runSound, poolFilled, poolRest, layersSound};
 ghost use Rattle.sound_layers.specs.Runs.{RunsPlaced};
 
 // The runs of the layers in use are apart: no place of the pool is taken twice.
@@ -40,10 +38,10 @@ fn runs_sound(layers: &[u64]) -> bool
     true
 }
 
-// The layers in use, counted.
-fn layers_in_use(layers: &[u64]) -> u64
+// So many layers are in use.
+fn layers_counted(layers: &[u64], used: u64) -> bool
     requires { ⌜ length (now layers) ≡ layerWidth * maxLayers ⌝ }
-    ensures { λ r. ⌜ r ≡ tally (layerInUse (now (layers .entry))) maxLayers ⌝ }
+    ensures { λ r. ⌜ r ≡ layersCounted (now (layers .entry)) used ⌝ }
 {
     let mut n: u64 = 0;
     let mut l = 0;
@@ -53,13 +51,13 @@ fn layers_in_use(layers: &[u64]) -> u64
         }
         l += 1;
     }
-    n
+    used == n
 }
 
-// Their rules, added up.
-fn rules_in_use(layers: &[u64]) -> u64
+// They have so many rules.
+fn pool_filled(layers: &[u64], taken: u64) -> bool
     requires { ⌜ (length (now layers) ≡ layerWidth * maxLayers) × RunsPlaced (now layers) maxLayers ⌝ }
-    ensures { λ r. ⌜ r ≡ sumBelow (layerCount (now (layers .entry))) maxLayers ⌝ }
+    ensures { λ r. ⌜ r ≡ poolFilled (now (layers .entry)) taken ⌝ }
 {
     let mut n: u64 = 0;
     let mut l = 0;
@@ -67,7 +65,7 @@ fn rules_in_use(layers: &[u64]) -> u64
         n += layers[LAYER_WIDTH * l + 5];
         l += 1;
     }
-    n
+    taken == n
 }
 
 // Past the rules in use every cell of the pool is 0.
@@ -94,7 +92,7 @@ pub fn layers_sound(
     requires { ⌜ (length (now layers) ≡ layerWidth * maxLayers) × ((length (now pool) ≡ ruleWidth * maxPool) × ((length (now entries) ≡ entryWidth * maxEntries) × Indexed (now entries) (now heads) (now links))) ⌝ }
     ensures { λ r. ⌜ r ≡ layersSound (now (entries .entry)) next level (now (layers .entry)) (now (pool .entry)) used taken ⌝ }
 {
-    if used != layers_in_use(layers) {
+    if !layers_counted(layers, used) {
         return false;
     }
     if taken > MAX_POOL as u64 {
@@ -106,7 +104,7 @@ pub fn layers_sound(
     if !runs_sound(layers) {
         return false;
     }
-    if taken != rules_in_use(layers) {
+    if !pool_filled(layers, taken) {
         return false;
     }
     pool_rest(pool, taken)

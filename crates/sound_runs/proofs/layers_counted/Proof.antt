@@ -3,23 +3,26 @@ use mathlib.Core.Path.{_≡_, ap, _∙_}
 use mathlib.Core.Logic.{⊎-elim}
 use Prim.Native.Nat.{_≤_, _-_}
 use native.Mathlib.Omega.{arith}
+use lib.Dec.{eqb}
 use borrow.Author.Needs.{needs}
 use Rattle.laws.specs.Sums.{tally}
 use Rattle.access.specs.Limits.{maxLayers}
 use Rattle.tables.specs.Layers.{layerInUse}
 use Rattle.laws.proofs.Sums.{sum-start, tally-yes, tally-no}
+use Rattle.sound_layers.specs.Layers.{layersCounted}
 use Rattle.sound_layers.proofs.Records.{held-none, held-some}
-use Rattle.sound_runs.proofs.layers_in_use.Statement.{statement}
-use Rattle.sound_runs.proofs.layers_in_use.Tie as tie
+use Rattle.sound_runs.proofs.layers_counted.Statement.{statement}
+use Rattle.sound_runs.proofs.layers_counted.Tie as tie
 
 abbrev Inv-loop : tie.InvT-loop
-Inv-loop layers n₀ l₀ n l = (l ≤ maxLayers) × (n ≤ l) × (n ≡ tally (layerInUse layers) l)
+Inv-loop layers used n₀ l₀ n l = (l ≤ maxLayers) × (n ≤ l) × (n ≡ tally (layerInUse layers) l)
 
 abbrev μ-loop : tie.MeasureT-loop
-μ-loop layers n₀ l₀ n l = maxLayers - l
+μ-loop layers used n₀ l₀ n l = maxLayers - l
 
-pub layers-in-use-spec : {M : Type 1} → statement M
-layers-in-use-spec =
+pub layers-counted-spec : {M : Type 1} → statement M
+unfolding layersCounted
+layers-counted-spec =
     tie.close
     (tie.spec Inv-loop μ-loop
     (λ c. (omega arith, omega arith, sum-start _))
@@ -41,4 +44,5 @@ layers-in-use-spec =
     (λ c.
     let l = c .before .loop in
     let e : l .l ≡ maxLayers = omega arith in
-    l .inv .2 ∙ ap (tally (layerInUse (c .before .before .args .layers .now))) e))
+    let a = c .before .before .args in
+    ap (eqb (a .used)) (l .inv .2 ∙ ap (tally (layerInUse (a .layers .now))) e)))
