@@ -12,7 +12,7 @@ ghost use Rattle.tables.specs.Tables.{layerWidth, threadWidth};
 ghost use Rattle.sound_domains.specs.Domains.{chainEnds, threadSound, threadsSound};
 
 // From a layer (its number + 1, or 0 for none) the parents come to none within the limit of a domain. A layer past the table has none.
-pub fn chain_ends(layers: &[u64], y: u64) -> bool
+fn chain_ends(layers: &[u64], y: u64) -> bool
     requires { ⌜ length (now layers) ≡ layerWidth * maxLayers ⌝ }
     ensures { λ r. ⌜ r ≡ chainEnds (now (layers .entry)) maxDomain y ⌝ }
 {

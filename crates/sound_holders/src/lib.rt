@@ -1,20 +1,21 @@
-// The soundness test of the hierarchy of layers: their holders are counted in one pass over the cells that name layers.
+// The soundness test of the hierarchy of layers: their holders are counted in one pass over the cells that name layers, and a climb ends
+// at a layer that an earlier climb came from.
+use access::limits::MAX_DOMAIN;
 use access::limits::MAX_LAYERS;
 use access::limits::MAX_THREADS;
 use cells::read;
 use cells::row_read;
-use sound_domains::chain_ends;
 use sound_domains::threads_sound;
 use tables::rows::LAYER_WIDTH;
 use tables::rows::THREAD_WIDTH;
 ghost use mathlib.Core.Path.{_≡_};
-ghost use Prim.Native.Nat.{ℕ, _-_, _*_, _<_, _≤_};
+ghost use Prim.Native.Nat.{ℕ, _+_, _-_, _*_, _<_, _≤_};
 ghost use lib.ListN.{length, getD};
 ghost use Rattle.laws.specs.Tests.{allBelow};
-ghost use Rattle.access.specs.Limits.{maxLayers, maxThreads};
+ghost use Rattle.access.specs.Limits.{maxLayers, maxThreads, maxDomain};
 ghost use Rattle.tables.specs.Tables.{layerWidth, threadWidth};
 ghost use Rattle.sound_domains.specs.Domains.{hierarchySound, domainsSound};
-ghost use Rattle.sound_domains.specs.Counting.{countOne, countRows, placeCounted};
+ghost use Rattle.sound_domains.specs.Counting.{countOne, countRows, depth, Depths, placeCounted};
 
 // One more for the layer that a cell names (its number + 1, or 0 for none).
 fn count_one(counts: &mut [u64], y: u64)
@@ -43,15 +44,43 @@ fn count_rows(counts: &mut [u64], table: &[u64], width: usize, k: usize, n: usiz
     }
 }
 
-// A layer's parent is one of the records, climbing from it ends, and its count is the one counted.
-fn place_sound(layers: &[u64], counts: &[u64], l: usize) -> bool
-    requires { ⌜ (length (now layers) ≡ layerWidth * maxLayers) × (l < maxLayers) ⌝ }
+// How many layers there are from `l` on, where more than the limit of a domain count as one more. `depths` has this of each layer below `l`.
+fn depth_of(layers: &[u64], depths: &[u64], l: usize) -> u64
+    requires { ⌜ (length (now layers) ≡ layerWidth * maxLayers) × ((l < maxLayers) × Depths (now layers) (now depths) l) ⌝ }
+    ensures { λ r. ⌜ r ≡ depth (now (layers .entry)) maxDomain (l + 1) ⌝ }
+{
+    let mut at = l as u64 + 1;
+    let mut n = 0;
+    while n < MAX_DOMAIN as u64 {
+        if at == 0 {
+            return n;
+        }
+        if at <= l as u64 {
+            let d = n + depths[(at - 1) as usize];
+            return if d > MAX_DOMAIN as u64 {
+                MAX_DOMAIN as u64 + 1
+            } else {
+                d
+            };
+        }
+        if at > MAX_LAYERS as u64 {
+            return n + 1;
+        }
+        at = layers[LAYER_WIDTH * (at - 1) as usize];
+        n += 1;
+    }
+    if at == 0 { n } else { n + 1 }
+}
+
+// A layer's parent is one of the records, its depth `d` is within the limit of a domain, and its count is the one counted.
+fn place_sound(layers: &[u64], counts: &[u64], l: usize, d: u64) -> bool
+    requires { ⌜ d ≡ depth (now layers) maxDomain (l + 1) ⌝ }
     ensures { λ r. ⌜ r ≡ placeCounted (now (layers .entry)) (now (counts .entry)) l ⌝ }
 {
     if row_read(layers, LAYER_WIDTH, l, 0) > MAX_LAYERS as u64 {
         return false;
     }
-    if !chain_ends(layers, l as u64 + 1) {
+    if d > MAX_DOMAIN as u64 {
         return false;
     }
     row_read(layers, LAYER_WIDTH, l, 6) == read(counts, l)
@@ -61,13 +90,15 @@ fn places_sound(layers: &[u64], counts: &[u64]) -> bool
     requires { ⌜ length (now layers) ≡ layerWidth * maxLayers ⌝ }
     ensures { λ r. ⌜ r ≡ allBelow (placeCounted (now (layers .entry)) (now (counts .entry))) maxLayers ⌝ }
 {
+    let mut depths = [0u64; MAX_LAYERS];
     let mut l = 0;
     while l < MAX_LAYERS {
-        if place_sound(layers, counts, l) {
-            l += 1;
-        } else {
+        let d = depth_of(layers, &depths, l);
+        if !place_sound(layers, counts, l, d) {
             return false;
         }
+        depths[l] = d;
+        l += 1;
     }
     true
 }
