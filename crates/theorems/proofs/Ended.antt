@@ -84,8 +84,10 @@ unfolding liveRules
 layers-returned = record {
   in-use = λ T l h b. in-use-is T h l b;
   room = λ T r h.
-      rw (← sum-same (λ l. bit (layerInUse (T .layers) l)) (λ l. bit (reached T l)) maxLayers (λ l b. ap bit (in-use-is T h l b)),
-        ← sum-same (layerCount (T .layers)) (λ l. cond (reached T l) (layerCount (T .layers) l) 0) maxLayers (λ l b. rules-are T h l b))
+      rw (
+        ← sum-same (λ l. bit (layerInUse (T .layers) l)) (λ l. bit (reached T l)) maxLayers (λ l b. ap bit (in-use-is T h l b)),
+        ← sum-same (layerCount (T .layers)) (λ l. cond (reached T l) (layerCount (T .layers) l) 0) maxLayers (λ l b. rules-are T h l b),
+      )
       (room-exact T r (facts T h));
   whole = λ T u h z. subst (λ (x : Tables). Ended T u x) (sym (end-is T u h z)) (ended-whole T u (facts T h) (end-live T u z));
   only = λ T T′ u h z k e.
