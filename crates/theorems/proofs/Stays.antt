@@ -282,17 +282,6 @@ refused-same T (link t s d) e h = call-same T _ _ _ e refl h
 refused-same T (rename t s d x) e h = call-same T _ _ _ e refl h
 refused-same T (exchange t s d x) e h = call-same T _ _ _ e refl h
 
--- ---- the same, one fact each
-module _ (T : Tables) (c : Call) (t : ℕ) (v : threadLive (T .threads) t ≡ true) (e : ends T c t ≡ false) where
-  pub layers-kept : (l : ℕ) → elem l (domainOf T t) ≡ true → layerAt ((after T c) .layers) ((after T c) .pool) l ≡ layerAt (T .layers) (T .pool) l
-  layers-kept = stays T c t v e .layers
-
-  pub thread-lives : threadLive ((after T c) .threads) t ≡ true
-  thread-lives = stays T c t v e .lives
-
-  pub domain-grows : Grown (domainOf T t) (domainOf (after T c) t)
-  domain-grows = stays T c t v e .grown
-
 -- ---- a list of calls
 stays-on : (T T1 T2 : Tables) (t : ℕ) → Stays T T1 t → Stays T1 T2 t → Stays T T2 t
 unfolding Grown
