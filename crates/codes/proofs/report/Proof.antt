@@ -1,4 +1,5 @@
 -- Assumes nothing.
+use borrow.Author.Needs.{needs}
 use Rattle.codes.proofs.report.Statement.{statement}
 use Rattle.codes.proofs.report.Tie as tie
 
@@ -8,4 +9,5 @@ report-spec =
     (tie.spec
     (λ c κs. tt)
     (λ c κs. tt)
-    (λ c. rw (c .before .before .write2 .ensures, c .before .before .before .before .write .ensures)))
+    (λ c. search needs)
+    (λ c. rw (c .before .before .write2 .ensures, c .before .before .before .before .before .before .write .ensures)))
