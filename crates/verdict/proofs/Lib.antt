@@ -1,0 +1,2 @@
+-- The laws of a domain's verdict.
+pub mod Denials
