@@ -1,8 +1,9 @@
 -- The verdict of a domain on a question: which layer denies it, and what.
-use mathlib.Core.Bool.{cond}
+use mathlib.Core.Bool.{Bool, true, false, cond}
 use mathlib.Core.List.{List, [], _∷_}
 use Prim.Native.Nat.{ℕ, zero, suc}
 use lib.Dec.{eqb}
+use Rattle.access.specs.Errno.{EACCES, EXDEV}
 use Rattle.tables.specs.Layers.{layerAt}
 use Rattle.judge.specs.Judge.{missing, portMissing}
 use Rattle.fs.specs.Move.{deniedNeeds, crossing}
@@ -38,3 +39,15 @@ crossedAt (suc l) set = Crossed l (record { 0 = set })
 unfoldable pub denial : (ℕ → ℕ) → (ℕ → ℕ) → ℕ → ℕ → List ℕ → Denial
 denial a b k set [] = crossedAt k set
 denial a b k set (l ∷ D) = let r = denial a b (keptAt k (suc l) (b l)) (keptSet k set (b l)) D in cond (eqb (a l) 0) r (Denied l (record { 0 = a l }))
+
+-- some layer denies a right that was asked for, or a need
+unfoldable pub isDenied : Denial → Bool
+isDenied None = false
+isDenied (Denied l s) = true
+isDenied (Crossed l s) = false
+
+-- "A denied need other than REFER is EACCES; else denied REFER or failed containment is EXDEV"
+unfoldable pub refusalOf : Denial → ℕ
+refusalOf None = 0
+refusalOf (Denied l s) = EACCES
+refusalOf (Crossed l s) = EXDEV

@@ -1,4 +1,5 @@
 // The verdict of a domain: one walk from the youngest layer to the oldest, for any question.
+use access::errno::Errno;
 use access::limits::MAX_DOMAIN;
 use access::rights::Rights;
 use cells::row_read;
@@ -10,8 +11,10 @@ use judge::climb::layer_port_missing;
 use tables::rows::LAYER_WIDTH;
 ghost use mathlib.Core.Path.{_≡_};
 ghost use Rattle.access.specs.Limits.{maxDomain};
-ghost use Rattle.judge.specs.Domain.{chain};
-ghost use Rattle.verdict.specs.Denial.{deniedBy, crossedBy, keptAt, keptSet, crossedAt, denial};
+ghost use Rattle.laws.specs.Refusals.{first};
+ghost use Rattle.judge.specs.Domain.{chain, lacks, portLacks};
+ghost use Rattle.fs.specs.Move.{verdict};
+ghost use Rattle.verdict.specs.Denial.{deniedBy, crossedBy, keptAt, keptSet, crossedAt, denial, isDenied, refusalOf};
 
 // What is asked of a domain: rights at an entry, rights at a port, or a move.
 pub enum Question {
@@ -101,4 +104,61 @@ pub fn domain_denial(entries: &[u64], layers: &[u64], pool: &[u64], y: u64, q: Q
         n -= 1;
     }
     crossed_at(k, set)
+}
+
+// Some layer denies a right that was asked for, or a need.
+fn is_denied(d: Denial) -> bool
+    ensures { λ r. ⌜ r ≡ isDenied d ⌝ }
+{
+    match d {
+        Denial::None => false,
+        Denial::Denied(_, _) => true,
+        Denial::Crossed(_, _) => false,
+    }
+}
+
+// The error number of a denial, 0 for none.
+fn refusal_of(d: Denial) -> u64
+    ensures { λ r. ⌜ r ≡ refusalOf d ⌝ }
+{
+    match d {
+        Denial::None => 0,
+        Denial::Denied(_, _) => Errno::EACCES.0,
+        Denial::Crossed(_, _) => Errno::EXDEV.0,
+    }
+}
+
+// Some layer of the domain whose youngest layer is `y` (its number + 1, or 0) denies one of the rights asked for at the entry.
+pub fn domain_lacks(
+    entries: &[u64],
+    layers: &[u64],
+    pool: &[u64],
+    y: u64,
+    e: u64,
+    asked: Rights,
+) -> bool
+    ensures { λ r. ⌜ r ≡ lacks (now (entries .entry)) (now (layers .entry)) (now (pool .entry)) (chain (now (layers .entry)) maxDomain y) e (asked .0) ⌝ }
+{
+    is_denied(domain_denial(entries, layers, pool, y, Question::Entry(e, asked)))
+}
+
+// The same at a port.
+pub fn domain_port_lacks(
+    entries: &[u64],
+    layers: &[u64],
+    pool: &[u64],
+    y: u64,
+    port: u64,
+    asked: Rights,
+) -> bool
+    ensures { λ r. ⌜ r ≡ portLacks (now (layers .entry)) (now (pool .entry)) (chain (now (layers .entry)) maxDomain y) port (asked .0) ⌝ }
+{
+    is_denied(domain_denial(entries, layers, pool, y, Question::Port(port, asked)))
+}
+
+// The refusal of the move by the domain, or 0.
+pub fn move_verdict(entries: &[u64], layers: &[u64], pool: &[u64], y: u64, m: Move) -> u64
+    ensures { λ r. ⌜ r ≡ first (verdict (now (entries .entry)) (now (layers .entry)) (now (pool .entry)) (chain (now (layers .entry)) maxDomain y) m) ⌝ }
+{
+    refusal_of(domain_denial(entries, layers, pool, y, Question::Move(m)))
 }
