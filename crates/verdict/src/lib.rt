@@ -8,6 +8,7 @@ use fs_layer::Against;
 use fs_layer::layer_against;
 use judge::climb::layer_missing;
 use judge::climb::layer_port_missing;
+use tables::rows::LAYER_PARENT;
 use tables::rows::LAYER_WIDTH;
 ghost use mathlib.Core.Path.{_≡_};
 ghost use Rattle.access.specs.Limits.{maxDomain};
@@ -100,7 +101,7 @@ pub fn domain_denial(entries: &[u64], layers: &[u64], pool: &[u64], y: u64, q: Q
         let crossing = held.crossing;
         set = kept_set(k, set, crossing);
         k = kept_at(k, at, crossing);
-        at = row_read(layers, LAYER_WIDTH, (at - 1) as usize, 0);
+        at = row_read(layers, LAYER_WIDTH, (at - 1) as usize, LAYER_PARENT);
         n -= 1;
     }
     crossed_at(k, set)
