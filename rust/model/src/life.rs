@@ -1,0 +1,159 @@
+//! The long life of the same tables: threads are cloned, restricted and ended again and again, and
+//! the tables are full only while live threads fill them.
+
+use crate::call::{Broker, Call, Reply};
+use crate::compare::{Case, Step};
+use crate::random::Random;
+use crate::refusal::Refusal;
+use crate::state::{Model, MAX_LAYERS, POOL_PLACES};
+use crate::tables::{encode, Tables};
+use crate::tally::Tally;
+
+/// The calls between two comparisons of all cells.
+const SPAN: usize = 100;
+/// The calls between two changes of what is called most.
+const SEASON: usize = 700;
+/// The rules of the rulesets that layers are made of.
+const RULES: [u64; 12] = [0, 0, 0, 1, 1, 2, 3, 5, 13, 34, 63, 64];
+const LEVEL: u64 = 6;
+
+/// Drives both sides through so many calls on the same tables; answers the calls since the cells
+/// were last the same, if the sides differ.
+pub fn live<B: Broker>(broker: &mut B, seed: u64, calls: u64, tally: &mut Tally) -> Option<Case> {
+    let model = beginning();
+    let mut life = Life {
+        tables: encode(&model),
+        case: Case {
+            start: model.clone(),
+            steps: Vec::new(),
+        },
+        model,
+        broker,
+    };
+    let mut random = Random::new(seed);
+    let mut season = Season::Growing;
+    for number in 0..calls as usize {
+        if number % SEASON == 0 {
+            season = random.pick(&Season::ALL);
+        }
+        let call = season.call(&life.model, &mut random);
+        if !life.take(call, tally) || number % SPAN == SPAN - 1 && !life.same_cells() {
+            return Some(life.case);
+        }
+    }
+    (!life.same_cells()).then_some(life.case)
+}
+
+/// One thread that may restrict itself, and the rulesets.
+fn beginning() -> Model {
+    let mut model = Model::fresh(LEVEL);
+    let ready = model.set_no_new_privs(0).and_then(|_| {
+        RULES.iter().try_fold(0, |_, count| {
+            let handled = [1u64, 3].into_iter().flat_map(u64::to_le_bytes);
+            let ruleset = model.create_ruleset(&handled.collect::<Vec<u8>>(), 0)?;
+            (0..*count).try_fold(0, |_, port| {
+                model.add_port_rule(ruleset, 100 * ruleset + port, 1 + port % 3, 0)
+            })
+        })
+    });
+    assert_eq!(ready, Ok(0));
+    model
+}
+
+/// What is called most for a while.
+#[derive(Clone, Copy)]
+enum Season {
+    /// Layers without rules: the records run out.
+    Growing,
+    /// Layers of many rules: the pool runs out.
+    Filling,
+    Mixed,
+    Shrinking,
+}
+
+impl Season {
+    const ALL: [Season; 5] = [
+        Season::Growing,
+        Season::Filling,
+        Season::Mixed,
+        Season::Mixed,
+        Season::Shrinking,
+    ];
+
+    /// A call, mostly of a live thread.
+    fn call(self, model: &Model, random: &mut Random) -> Call {
+        let live: Vec<u64> = model.threads.keys().copied().collect();
+        let thread = if random.chance(98) {
+            random.pick(&live)
+        } else {
+            random.below(10)
+        };
+        let (clones, restricts) = match self {
+            Season::Growing | Season::Filling => (6, 90),
+            Season::Mixed => (30, 45),
+            Season::Shrinking => (20, 20),
+        };
+        let all = RULES.len() as u64;
+        let ruleset = match self {
+            Season::Growing => random.below(3),
+            Season::Filling => random.between(all - 4, all - 1),
+            _ => random.below(all),
+        };
+        match random.below(100) {
+            sort if sort < clones => Call::Clone { thread },
+            sort if sort < clones + restricts => Call::Restrict {
+                thread,
+                ruleset,
+                flags: 0,
+            },
+            _ => Call::End { thread },
+        }
+    }
+}
+
+/// Both sides, and the calls since their cells were last compared.
+struct Life<'a, B> {
+    broker: &'a mut B,
+    tables: Tables,
+    model: Model,
+    case: Case,
+}
+
+impl<B: Broker> Life<'_, B> {
+    /// Makes a call on both sides; answers whether they answer alike.
+    fn take(&mut self, call: Call, tally: &mut Tally) -> bool {
+        let room = room(&self.model, &call);
+        let (answer, report) = self.model.answer(&call);
+        let reply = self.broker.answer(&mut self.tables, &call);
+        tally.count(&call, answer);
+        let exact = match answer {
+            Ok(_) => room,
+            Err(Refusal::NoFreeLayer | Refusal::PoolFull) => !room,
+            Err(_) => true,
+        };
+        assert!(exact, "{call:?} with room {room}: {answer:?}");
+        self.case.steps.push(Step::Call(call));
+        reply == Reply::of(answer, report)
+    }
+
+    /// Whether the cells are the same; if so the next calls start from here.
+    fn same_cells(&mut self) -> bool {
+        let same = self.tables == encode(&self.model);
+        if same {
+            self.case.start.clone_from(&self.model);
+            self.case.steps.clear();
+        }
+        same
+    }
+}
+
+/// Whether the domains of the live threads leave room for a layer of the call's ruleset.
+fn room(model: &Model, call: &Call) -> bool {
+    let Call::Restrict { ruleset, .. } = call else {
+        return true;
+    };
+    let reached = model.reached();
+    let rules = reached.iter().map(|layer| model.layers[layer].rules.len());
+    let new = model.rulesets[ruleset].rules.len();
+    reached.len() < MAX_LAYERS && rules.sum::<usize>() + new <= POOL_PLACES
+}
