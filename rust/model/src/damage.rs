@@ -97,9 +97,10 @@ fn changed(model: &Model, tables: &Tables, table: Table, cell: usize, random: &m
 }
 
 /// A cell that names something, so that it names another thing of the same sort: a parent that is
-/// below, a count of holders, a port out of range, rights that a file doesn't have.
+/// below, a mask of nothing, another count of holders, a port out of range, rights that a file
+/// doesn't have.
 fn renamed_cell(model: &Model, tables: &Tables, random: &mut Random) -> Poke {
-    let (table, row, column, value) = match random.below(4) {
+    let (table, row, column, value) = match random.below(5) {
         0 => {
             let entries = model.entries.iter();
             let directories = entries.filter(|(_, entry)| entry.kind.is_directory());
@@ -114,6 +115,10 @@ fn renamed_cell(model: &Model, tables: &Tables, random: &mut Random) -> Poke {
             (Table::Layers, row, HOLDERS, value)
         }
         2 => {
+            let row = row_in_use(Table::Layers, model, random);
+            (Table::Layers, row, random.between(1, 3) as usize, 0)
+        }
+        3 => {
             let row = rule_in_use(2, model, tables, random);
             (Table::Pool, row, 1, random.between(65_535, 65_536))
         }

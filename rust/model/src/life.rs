@@ -5,7 +5,7 @@ use crate::call::{Broker, Call, Reply};
 use crate::compare::{Case, Step};
 use crate::random::Random;
 use crate::refusal::Refusal;
-use crate::state::{Model, MAX_LAYERS, POOL_PLACES};
+use crate::state::{Model, MAX_LAYERS, MAX_THREADS, POOL_PLACES};
 use crate::tables::{encode, Tables};
 use crate::tally::Tally;
 
@@ -80,35 +80,55 @@ impl Season {
         Season::Shrinking,
     ];
 
-    /// A call, mostly of a live thread.
+    /// A call, mostly of a live thread. The last thread without a layer stays so, and lives while
+    /// there are others: as domains only grow, all would be full in the end without it.
     fn call(self, model: &Model, random: &mut Random) -> Call {
         let live: Vec<u64> = model.threads.keys().copied().collect();
-        let thread = if random.chance(98) {
-            random.pick(&live)
-        } else {
-            random.below(10)
+        let bare = last_bare(model);
+        let mut others = live.clone();
+        others.retain(|number| Some(*number) != bare);
+        let other = match random.pick_some(&others) {
+            Some(thread) if random.chance(98) => thread,
+            _ => random.between(MAX_THREADS, 9),
         };
         let (clones, restricts) = match self {
             Season::Growing | Season::Filling => (6, 90),
             Season::Mixed => (30, 45),
             Season::Shrinking => (20, 20),
         };
+        match random.below(100) {
+            sort if sort < clones => Call::Clone {
+                thread: match bare {
+                    Some(bare) if random.chance(60) => bare,
+                    _ => random.pick(&live),
+                },
+            },
+            sort if sort < clones + restricts => Call::Restrict {
+                thread: other,
+                ruleset: self.ruleset(random),
+                flags: 0,
+            },
+            _ if others.is_empty() => Call::End { thread: live[0] },
+            _ => Call::End { thread: other },
+        }
+    }
+
+    fn ruleset(self, random: &mut Random) -> u64 {
         let all = RULES.len() as u64;
-        let ruleset = match self {
+        match self {
             Season::Growing => random.below(3),
             Season::Filling => random.between(all - 4, all - 1),
             _ => random.below(all),
-        };
-        match random.below(100) {
-            sort if sort < clones => Call::Clone { thread },
-            sort if sort < clones + restricts => Call::Restrict {
-                thread,
-                ruleset,
-                flags: 0,
-            },
-            _ => Call::End { thread },
         }
     }
+}
+
+/// The thread without a layer, if there is just one.
+fn last_bare(model: &Model) -> Option<u64> {
+    let threads = model.threads.iter();
+    let mut bare = threads.filter(|(_, thread)| thread.youngest.is_none());
+    let first = bare.next().map(|(number, _)| *number);
+    first.filter(|_| bare.next().is_none())
 }
 
 /// Both sides, and the calls since their cells were last compared.
