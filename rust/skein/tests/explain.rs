@@ -35,6 +35,9 @@ root            0  directory  0       - - - - -
 + granted   - denied   blank: not a right of this kind of entry
 ×N: an object with N entries (hard links)
 
+layer  holders
+0      1: thread main
+
 ports of  port   bind_tcp  connect_tcp
 main      8080   +         +
 main      other  -         +
