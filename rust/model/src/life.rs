@@ -96,20 +96,23 @@ impl Season {
             Season::Mixed => (30, 45),
             Season::Shrinking => (20, 20),
         };
-        match random.below(100) {
-            sort if sort < clones => Call::Clone {
-                thread: match bare {
-                    Some(bare) if random.chance(60) => bare,
-                    _ => random.pick(&live),
-                },
-            },
-            sort if sort < clones + restricts => Call::Restrict {
+        let sort = random.below(100);
+        if sort < clones || others.is_empty() && random.chance(95) {
+            let thread = match bare {
+                Some(bare) if random.chance(60) => bare,
+                _ => random.pick(&live),
+            };
+            Call::Clone { thread }
+        } else if sort < clones + restricts {
+            Call::Restrict {
                 thread: other,
                 ruleset: self.ruleset(random),
                 flags: 0,
-            },
-            _ if others.is_empty() => Call::End { thread: live[0] },
-            _ => Call::End { thread: other },
+            }
+        } else if others.is_empty() {
+            Call::End { thread: live[0] }
+        } else {
+            Call::End { thread: other }
         }
     }
 
