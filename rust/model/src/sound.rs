@@ -342,8 +342,7 @@ fn threads(tables: &Tables) -> Checked<BTreeMap<u64, Thread>> {
 /// Layers and threads name layers in use, the counts of holders are true, and climbing from any
 /// layer ends within the limit of a domain.
 fn domains_sound(tables: &Tables, model: &Model) -> Checked<()> {
-    let in_use =
-        |layer: Option<usize>| layer.map_or(true, |layer| model.layers.contains_key(&layer));
+    let in_use = |layer: Option<usize>| layer.is_none_or(|layer| model.layers.contains_key(&layer));
     let mut parents = model.layers.values().map(|layer| layer.parent);
     ensure(parents.all(in_use), Unsound::LayerParent)?;
     let mut youngest = model.threads.values().map(|thread| thread.youngest);

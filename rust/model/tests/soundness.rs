@@ -232,9 +232,9 @@ fn deep_domains() {
     let first = model.layers[&0].clone();
     model.layers.clear();
     model.runs.clear();
-    for number in 0..65 {
+    for number in 0..65usize {
         let mut layer = first.clone();
-        layer.parent = (number as usize).checked_sub(1);
+        layer.parent = number.checked_sub(1);
         model.add_layer(number, layer);
         model.threads.get_mut(&0).unwrap().youngest = Some(number);
         let tables = encode(&model);
