@@ -1,7 +1,7 @@
 //! Compares the proved core with the model.
 
 use model::compare::{compare, sweep, Options};
-use model::life::live;
+use model::long_run::long_run;
 use model::proved::Core;
 use model::scenario::scenario;
 use model::shrink::shrink;
@@ -11,17 +11,17 @@ use std::process::ExitCode;
 use std::time::Instant;
 
 const HELP: &str = "\
-usage: model compare [--seed N] [--calls N] [--seconds N] [--life N]
+usage: model compare [--seed N] [--calls N] [--seconds N] [--long N]
 
 Drives the proved core and the model through attributes of every length and through random lists of
 calls, from random tables, sound and damaged, and compares the reply and every cell after every call.
-Then threads of the same tables are cloned, restricted and ended for long; there the replies are
+Then threads of the same tables are cloned, restricted and ended very often; there the replies are
 compared after every call and the cells after every 100.
 
   --seed N     the seed of the random numbers (default 1)
   --calls N    the calls to make in random lists (default 1000000)
   --seconds N  stop the lists after so many seconds; without --calls, only then
-  --life N     the calls on the tables that live long (default 1000000)
+  --long N     the calls on the same tables (default 1000000)
 
 Without a difference the answers are counted by call and the exit code is 0. A difference is printed
 as a short scenario file, with exit code 1. Wrong arguments give exit code 2.
@@ -37,7 +37,7 @@ fn main() -> ExitCode {
         return ExitCode::SUCCESS;
     }
     match options(&arguments) {
-        Some((options, life)) => run(&options, life),
+        Some((options, long)) => run(&options, long),
         None => {
             eprint!("{HELP}");
             ExitCode::from(2)
@@ -46,7 +46,7 @@ fn main() -> ExitCode {
 }
 
 fn options(arguments: &[String]) -> Option<(Options, u64)> {
-    let (mut seed, mut calls, mut seconds, mut life) = (1, None, None, CALLS);
+    let (mut seed, mut calls, mut seconds, mut long) = (1, None, None, CALLS);
     let (command, pairs) = arguments.split_first()?;
     if command != "compare" || pairs.len() % 2 != 0 {
         return None;
@@ -57,7 +57,7 @@ fn options(arguments: &[String]) -> Option<(Options, u64)> {
             "--seed" => seed = value,
             "--calls" => calls = Some(value),
             "--seconds" => seconds = Some(value),
-            "--life" => life = value,
+            "--long" => long = value,
             _ => return None,
         }
     }
@@ -67,16 +67,16 @@ fn options(arguments: &[String]) -> Option<(Options, u64)> {
         calls: calls.unwrap_or(all),
         seconds,
     };
-    Some((options, life))
+    Some((options, long))
 }
 
-fn run(options: &Options, life: u64) -> ExitCode {
+fn run(options: &Options, long: u64) -> ExitCode {
     assert_eq!(skeinrabbit_sys::SIZES, Table::ALL.map(Table::length));
     let begin = Instant::now();
     let mut tally = Tally::default();
     let different = sweep(&mut Core, options.seed, &mut tally)
         .or_else(|| compare(&mut Core, options, &mut tally))
-        .or_else(|| live(&mut Core, options.seed, life, &mut tally));
+        .or_else(|| long_run(&mut Core, options.seed, long, &mut tally));
     let seconds = begin.elapsed().as_secs_f64();
     eprintln!("{} calls in {seconds:.1} seconds", tally.calls);
     let Some(case) = different else {

@@ -198,24 +198,24 @@ fn rulesets_16_the_last_of_64_rules() {
 
 /// Threads with chains of layers, given as the first record of each and the one after its last; the
 /// last of a chain is its thread's youngest.
-fn chains<const N: usize>(chains: [Range<u64>; N]) -> Tables {
+fn chains(chains: &[(u64, u64)]) -> Tables {
     let mut tables = fresh(6);
-    for (thread, chain) in (0..).zip(&chains) {
-        let parent = |number| if number == chain.start { 0 } else { number };
-        write(&mut tables, Layers, chain.clone(), |number| {
+    for (thread, (first, end)) in (0..).zip(chains.iter().copied()) {
+        let parent = |number| if number == first { 0 } else { number };
+        write(&mut tables, Layers, first..end, |number| {
             [parent(number), WRITE_FILE, 0, 0, 0, 0, 1]
         });
-        write(&mut tables, Threads, thread..thread + 1, |_| [1, chain.end]);
-        tables.of_mut(System)[2] += chain.end - chain.start;
+        write(&mut tables, Threads, thread..thread + 1, |_| [1, end]);
+        tables.of_mut(System)[2] += end - first;
     }
     tables
 }
 
 #[test]
 fn layers_256() {
-    let mut tables = chains([0..64, 64..128, 128..192, 192..255]);
+    let mut tables = chains(&[(0, 64), (64, 128), (128, 192), (192, 255)]);
     sound(&tables, "255 layers");
-    let mut full = chains([0..63, 64..128, 128..192, 192..256, 63..64]);
+    let mut full = chains(&[(0, 63), (64, 128), (128, 192), (192, 256), (63, 64)]);
     sound(&full, "256 layers");
     for count in [255, 257] {
         let counted = poked(full.clone(), System, 0, 2, count);
@@ -246,7 +246,13 @@ fn layers_256() {
 fn the_only_free_record() {
     for free in [255, 0] {
         let other = 255 - free;
-        let mut tables = chains([1..64, 64..128, 128..192, 192..255, other..other + 1]);
+        let mut tables = chains(&[
+            (1, 64),
+            (64, 128),
+            (128, 192),
+            (192, 255),
+            (other, other + 1),
+        ]);
         ready_to_restrict(&mut tables);
         succeeds(&mut tables, restrict(), 0);
         assert_eq!(tables.row(Threads, 0), [1, free + 1, 1, 0]);
@@ -355,13 +361,13 @@ fn a_full_pool_comes_back() {
 
 #[test]
 fn layers_to_a_domain() {
-    let mut full = chains([0..64]);
+    let mut full = chains(&[(0, 64)]);
     sound(&full, "64 layers to a domain");
-    unsound(&chains([0..65]), "65 layers to a domain");
+    unsound(&chains(&[(0, 65)]), "65 layers to a domain");
     ready_to_restrict(&mut full);
     refused(&full, restrict(), E2BIG);
     for layers in [15, 16, 62, 63] {
-        let mut room = chains([0..layers]);
+        let mut room = chains(&[(0, layers)]);
         ready_to_restrict(&mut room);
         succeeds(&mut room, restrict(), 0);
         assert_eq!(room.row(Threads, 0), [1, layers + 1, 1, 0]);
@@ -371,7 +377,7 @@ fn layers_to_a_domain() {
 /// A layer that is too deep on layers that are not.
 #[test]
 fn layers_below_a_domain() {
-    let deep = poked(chains([0..64, 64..80]), Layers, 64, 0, 48);
+    let deep = poked(chains(&[(0, 64), (64, 80)]), Layers, 64, 0, 48);
     let deep = poked(deep, Layers, 47, 6, 2);
     sound(&deep, "48 layers and 16 on them");
     let deeper = poked(poked(deep, Layers, 47, 6, 1), Layers, 64, 0, 49);
@@ -381,11 +387,11 @@ fn layers_below_a_domain() {
 
 #[test]
 fn rings_of_layers() {
-    let ring = poked(chains([0..4]), Layers, 0, 0, 4);
+    let ring = poked(chains(&[(0, 4)]), Layers, 0, 0, 4);
     let ring = poked(ring, Layers, 3, 6, 2);
     unsound(&ring, "four layers in a ring, and a thread");
     let alone = poked(poked(ring, Layers, 3, 6, 1), Threads, 0, 1, 0);
     unsound(&alone, "four layers in a ring");
-    let itself = poked(poked(chains([0..1]), Layers, 0, 0, 1), Layers, 0, 6, 2);
+    let itself = poked(poked(chains(&[(0, 1)]), Layers, 0, 0, 1), Layers, 0, 6, 2);
     unsound(&itself, "a layer that is its own parent");
 }

@@ -2,7 +2,7 @@
 
 use model::call::{Broker, Call, Reply, UNWRITTEN};
 use model::compare::{compare, sweep, Case, Difference, Options, Step};
-use model::life::live;
+use model::long_run::long_run;
 use model::reference::Rereading;
 use model::refusal::{Errno, Refusal};
 use model::rights::{Masks, Rights};
@@ -416,7 +416,7 @@ fn the_record_after_the_last_is_found() {
     let text = scenario(&case, &difference);
     assert_eq!(case.steps.len(), 1, "{text}");
     assert_eq!(case.start.layers.len(), 1, "{text}");
-    let case = live(&mut NextRecord, 1, 20_000, &mut Tally::default());
+    let case = long_run(&mut NextRecord, 1, 20_000, &mut Tally::default());
     let (case, difference) = shortened(&mut NextRecord, case);
     let text = scenario(&case, &difference);
     assert_eq!(case.steps.len(), 1, "{text}");
@@ -445,9 +445,9 @@ fn a_busy_thread_that_is_not_live_is_found() {
 }
 
 #[test]
-fn the_model_lives_long_and_meets_full_tables() {
+fn a_long_run_meets_full_tables() {
     let mut tally = Tally::default();
-    assert_eq!(live(&mut Rereading, 1, 20_000, &mut tally), None);
+    assert_eq!(long_run(&mut Rereading, 1, 20_000, &mut tally), None);
     let text = tally.to_string();
     for refusal in [
         "DomainFull",

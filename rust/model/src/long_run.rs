@@ -1,4 +1,4 @@
-//! The long life of the same tables: threads are cloned, restricted and ended again and again, and
+//! Very many calls on the same tables: threads are cloned, restricted and ended again and again, and
 //! the tables are full only while live threads fill them.
 
 use crate::call::{Broker, Call, Reply};
@@ -12,16 +12,21 @@ use crate::tally::Tally;
 /// The calls between two comparisons of all cells.
 const SPAN: usize = 100;
 /// The calls between two changes of what is called most.
-const SEASON: usize = 700;
+const PHASE: usize = 700;
 /// The rules of the rulesets that layers are made of.
 const RULES: [u64; 12] = [0, 0, 0, 1, 1, 2, 3, 5, 13, 34, 63, 64];
 const LEVEL: u64 = 6;
 
 /// Drives both sides through so many calls on the same tables; answers the calls since the cells
 /// were last the same, if the sides differ.
-pub fn live<B: Broker>(broker: &mut B, seed: u64, calls: u64, tally: &mut Tally) -> Option<Case> {
+pub fn long_run<B: Broker>(
+    broker: &mut B,
+    seed: u64,
+    calls: u64,
+    tally: &mut Tally,
+) -> Option<Case> {
     let model = beginning();
-    let mut life = Life {
+    let mut run = LongRun {
         tables: encode(&model),
         case: Case {
             start: model.clone(),
@@ -31,17 +36,17 @@ pub fn live<B: Broker>(broker: &mut B, seed: u64, calls: u64, tally: &mut Tally)
         broker,
     };
     let mut random = Random::new(seed);
-    let mut season = Season::Growing;
+    let mut phase = Phase::Layers;
     for number in 0..calls as usize {
-        if number % SEASON == 0 {
-            season = random.pick(&Season::ALL);
+        if number % PHASE == 0 {
+            phase = random.pick(&Phase::ALL);
         }
-        let call = season.call(&life.model, &mut random);
-        if !life.take(call, tally) || number % SPAN == SPAN - 1 && !life.same_cells() {
-            return Some(life.case);
+        let call = phase.call(&run.model, &mut random);
+        if !run.take(call, tally) || number % SPAN == SPAN - 1 && !run.same_cells() {
+            return Some(run.case);
         }
     }
-    (!life.same_cells()).then_some(life.case)
+    (!run.same_cells()).then_some(run.case)
 }
 
 /// One thread that may restrict itself, and the rulesets.
@@ -62,22 +67,22 @@ fn beginning() -> Model {
 
 /// What is called most for a while.
 #[derive(Clone, Copy)]
-enum Season {
+enum Phase {
     /// Layers without rules: the records run out.
-    Growing,
+    Layers,
     /// Layers of many rules: the pool runs out.
-    Filling,
+    Rules,
     Mixed,
-    Shrinking,
+    Ends,
 }
 
-impl Season {
-    const ALL: [Season; 5] = [
-        Season::Growing,
-        Season::Filling,
-        Season::Mixed,
-        Season::Mixed,
-        Season::Shrinking,
+impl Phase {
+    const ALL: [Phase; 5] = [
+        Phase::Layers,
+        Phase::Rules,
+        Phase::Mixed,
+        Phase::Mixed,
+        Phase::Ends,
     ];
 
     /// A call, mostly of a live thread. The last thread without a layer stays so, and lives while
@@ -92,9 +97,9 @@ impl Season {
             _ => random.between(MAX_THREADS, 9),
         };
         let (clones, restricts) = match self {
-            Season::Growing | Season::Filling => (6, 90),
-            Season::Mixed => (30, 45),
-            Season::Shrinking => (20, 20),
+            Phase::Layers | Phase::Rules => (6, 90),
+            Phase::Mixed => (30, 45),
+            Phase::Ends => (20, 20),
         };
         let sort = random.below(100);
         if sort < clones || others.is_empty() && random.chance(95) {
@@ -119,8 +124,8 @@ impl Season {
     fn ruleset(self, random: &mut Random) -> u64 {
         let all = RULES.len() as u64;
         match self {
-            Season::Growing => random.below(3),
-            Season::Filling => random.between(all - 4, all - 1),
+            Phase::Layers => random.below(3),
+            Phase::Rules => random.between(all - 4, all - 1),
             _ => random.below(all),
         }
     }
@@ -135,14 +140,14 @@ fn last_bare(model: &Model) -> Option<u64> {
 }
 
 /// Both sides, and the calls since their cells were last compared.
-struct Life<'a, B> {
+struct LongRun<'a, B> {
     broker: &'a mut B,
     tables: Tables,
     model: Model,
     case: Case,
 }
 
-impl<B: Broker> Life<'_, B> {
+impl<B: Broker> LongRun<'_, B> {
     /// Makes a call on both sides; answers whether they answer alike.
     fn take(&mut self, call: Call, tally: &mut Tally) -> bool {
         let room = room(&self.model, &call);
