@@ -184,11 +184,9 @@ fn gap(model: &Model, tables: &Tables, random: &mut Random) -> Vec<Poke> {
     if used == POOL_PLACES {
         return Vec::new();
     }
-    let places: Vec<usize> = model.places().into_values().collect();
-    let from = random
-        .pick_some(&places)
-        .filter(|_| random.chance(80))
-        .unwrap_or(used);
+    let places = model.places();
+    let run = random.pick_some(&model.runs).filter(|_| random.chance(80));
+    let from = run.map_or(used, |number| places[number]);
     let poke = |table, cell, value| Poke { table, cell, value };
     let mut pokes = vec![poke(Table::System, 3, used as u64 + 1)];
     for place in from..used {
@@ -200,13 +198,10 @@ fn gap(model: &Model, tables: &Tables, random: &mut Random) -> Vec<Poke> {
         let cells = RULE_WIDTH * from..RULE_WIDTH * (from + 1);
         pokes.extend(cells.map(|cell| poke(Table::Pool, cell, 0)));
     }
-    let moved = model
-        .places()
-        .into_iter()
-        .filter(|(_, place)| *place >= from);
-    pokes.extend(moved.map(|(number, place)| {
+    let moved = model.runs.iter().filter(|number| places[**number] >= from);
+    pokes.extend(moved.map(|number| {
         let cell = Table::Layers.width() * number + 4;
-        poke(Table::Layers, cell, place as u64 + 1)
+        poke(Table::Layers, cell, places[*number] as u64 + 1)
     }));
     pokes
 }

@@ -286,9 +286,7 @@ fn drop_ruleset_rule(case: &mut Case, number: u64, key: Key) {
 
 /// Takes a rule out of a layer; those behind it in the pool move down.
 fn drop_layer_rule(case: &mut Case, number: usize, key: Key) {
-    let Some(first) = case.start.places().get(&number).copied() else {
-        return;
-    };
+    let first = case.start.places()[number];
     let layer = case.start.layers.get_mut(&number);
     let Some(place) = layer.and_then(|layer| layer.rules.remove(key)) else {
         return;

@@ -350,8 +350,7 @@ fn domains_sound(tables: &Tables, model: &Model) -> Checked<()> {
     let holders = model.holders();
     for number in model.layers.keys() {
         let counted = tables.row(Table::Layers, *number)[HOLDERS];
-        let held = holders.get(number).copied().unwrap_or(0);
-        ensure(counted == held as u64, Unsound::Holders)?;
+        ensure(counted == holders[*number], Unsound::Holders)?;
     }
     let mut layers = model.layers.keys();
     let shallow = layers.all(|number| climbs(model, *number) <= MAX_DOMAIN);

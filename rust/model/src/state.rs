@@ -269,26 +269,27 @@ impl Model {
         reached
     }
 
-    /// How many live threads and layers hold each layer in use.
-    pub fn holders(&self) -> BTreeMap<usize, usize> {
+    /// How many live threads and layers hold each record.
+    pub fn holders(&self) -> Vec<u64> {
         let threads = self.threads.values().map(|thread| thread.youngest);
         let layers = self.layers.values().map(|layer| layer.parent);
-        let mut holders: BTreeMap<usize, usize> = BTreeMap::new();
+        let mut holders = vec![0; MAX_LAYERS];
         for held in threads.chain(layers).flatten() {
-            *holders.entry(held).or_default() += 1;
+            holders[held] += 1;
         }
         holders
     }
 
-    /// The first pool place of each layer with rules: the runs lie one behind the other.
-    pub fn places(&self) -> BTreeMap<usize, usize> {
+    /// The first pool place of each record's rules, 0 where it has none: the runs lie one behind the
+    /// other.
+    pub fn places(&self) -> Vec<usize> {
+        let mut places = vec![0; MAX_LAYERS];
         let mut next = 0;
-        let places = self.runs.iter().map(|number| {
-            let place = next;
+        for number in &self.runs {
+            places[*number] = next;
             next += self.layers[number].rules.len();
-            (*number, place)
-        });
-        places.collect()
+        }
+        places
     }
 
     /// The pool places that the runs fill.

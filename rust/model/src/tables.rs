@@ -153,13 +153,13 @@ fn encode_rulesets(model: &Model, tables: &mut Tables) {
 fn encode_layers(model: &Model, tables: &mut Tables) {
     let (holders, places) = (model.holders(), model.places());
     for (number, layer) in &model.layers {
-        let place = places.get(number).copied().unwrap_or(0);
+        let place = places[*number];
         let row = tables.row_mut(Table::Layers, *number);
         row[0] = after(layer.parent);
         row[1..4].copy_from_slice(&mask_cells(layer.masks));
         row[4] = place as u64;
         row[5] = layer.rules.len() as u64;
-        row[HOLDERS] = holders.get(number).copied().unwrap_or(0) as u64;
+        row[HOLDERS] = holders[*number];
         encode_rules(
             &layer.rules,
             &mut tables.of_mut(Table::Pool)[RULE_WIDTH * place..],

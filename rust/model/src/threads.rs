@@ -39,8 +39,7 @@ impl Model {
     pub fn layer_rules(&self, layer: u64) -> Result<(usize, usize), Refusal> {
         let number = usize::try_from(layer).map_err(|_| Refusal::LayerNotInUse)?;
         let layer = self.layers.get(&number).ok_or(Refusal::LayerNotInUse)?;
-        let place = self.places().get(&number).copied().unwrap_or(0);
-        Ok((place, layer.rules.len()))
+        Ok((self.places()[number], layer.rules.len()))
     }
 
     /// Clones a thread; the copy has its domain and marks.
