@@ -259,17 +259,12 @@ fn stack_layers(model: &mut Model, shape: Shape, random: &mut Random) -> Vec<Lay
         let room = (MAX_DOMAIN - depth(&made, youngest)).min(MAX_LAYERS - made.len());
         let left = threads.len() - turn;
         for _ in 0..new_layers(shape, turn, left, made.len(), random).min(room) {
-            let free = POOL_PLACES - made.iter().map(|layer| layer.rules.len()).sum::<usize>();
-            let count = most_rules.min(free as u64);
+            let used: usize = made.iter().map(|layer| layer.rules.len()).sum();
+            let free = POOL_PLACES - used;
             let (masks, rules) = match shape {
                 Shape::Uneven => uneven(&entries, model.level, free, random),
                 Shape::FullPool if model.level >= 4 => ports(free, random),
-                _ => {
-                    let masks = masks(model.level, random);
-                    let count = random.between(0, count);
-                    let rules = rules(&entries, model, &masks, count, random);
-                    (masks, rules)
-                }
+                _ => plain(&entries, model, most_rules.min(free as u64), random),
             };
             let parent = youngest;
             youngest = Some(made.len());
@@ -317,6 +312,14 @@ fn new_layers(shape: Shape, turn: usize, left: usize, made: usize, random: &mut 
         Shape::Many => (MAX_LAYERS - few - made).div_ceil(left),
         Shape::FullPool => 17 / (turn + 1) + few,
     }
+}
+
+/// Masks and rules of a layer with so many rules at most.
+fn plain(entries: &[Entry], model: &Model, most_rules: u64, random: &mut Random) -> (Masks, Rules) {
+    let masks = masks(model.level, random);
+    let count = random.between(0, most_rules);
+    let rules = rules(entries, model, &masks, count, random);
+    (masks, rules)
 }
 
 /// Masks and rules of a layer that grants almost everything.

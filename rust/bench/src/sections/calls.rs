@@ -48,22 +48,27 @@ pub fn run(effort: Effort) {
             &script,
         );
     }
-    for (name, tables) in &policies[..5] {
-        compare(
-            effort,
-            &format!("clone or end, {name}"),
-            tables,
-            &Script::Clone,
-        );
+    threads(effort, &policies[..5]);
+}
+
+/// Clones and ends, and an end that gives 64 layers back.
+fn threads(effort: Effort, policies: &[(&str, Tables)]) {
+    for (name, tables) in policies {
+        let name = format!("clone or end, {name}");
+        compare(effort, &name, tables, &Script::Clone);
     }
     let start = inputs::with_leaver();
-    let [copy, end] = [false, true].map(|ends| Script::Copied {
-        start: start.clone(),
-        ends,
-    });
-    compare(effort, "a copy of the tables", &start, &copy);
-    let name = "a copy, and the end of a thread with 64 layers";
-    compare(effort, name, &start, &end);
+    let names = [
+        "a copy of the tables",
+        "a copy, and the end of a thread with 64 layers",
+    ];
+    for (name, ends) in names.into_iter().zip([false, true]) {
+        let script = Script::Copied {
+            start: start.clone(),
+            ends,
+        };
+        compare(effort, name, &start, &script);
+    }
 }
 
 /// What answers the calls.
