@@ -384,6 +384,23 @@ fn runs_that_stay_where_they_were_are_found() {
 }
 
 #[test]
+fn an_empty_run_with_a_place_is_found() {
+    let fault = |call: &Call, before: &Tables, after: &mut Tables| {
+        if let Call::Restrict { thread, .. } = *call {
+            let new = after.row(Table::Threads, thread as usize)[1] as usize - 1;
+            if after.row(Table::Layers, new)[5] == 0 {
+                let used = before.of(Table::System)[3];
+                after.poke(Table::Layers, Table::Layers.width() * new + 4, used);
+            }
+        }
+    };
+    let (case, difference) = found(&mut Rewriting(fault));
+    let text = scenario(&case, &difference);
+    assert_eq!(case.steps.len(), 1, "{text}");
+    assert_eq!(difference.cells.len(), 1, "{text}");
+}
+
+#[test]
 fn a_pool_that_is_not_cleared_is_found() {
     let fault = |call: &Call, before: &Tables, after: &mut Tables| {
         if let Call::End { .. } = call {
