@@ -7,6 +7,7 @@ ghost use Rattle.tables.specs.Outcome.{outcome};
 ghost use Rattle.domain_restrict.specs.Restrict.{restrictCall};
 ghost use Rattle.domain.specs.Layer.{layerRead, layerCode, layerPart};
 ghost use Rattle.domain.specs.Threads.{cloned, privsSet, adminSet};
+ghost use Rattle.domain_end.specs.End.{endCall};
 
 // One layer's rules, as a part of the pool: `code` becomes 0, or EIO or EBADF with an empty part.
 pub fn layer_rules<'a>(
@@ -61,7 +62,7 @@ pub fn clone_thread(
     system: &[u64],
     entries: &[u64],
     rulesets: &[u64],
-    layers: &[u64],
+    layers: &mut [u64],
     pool: &[u64],
     threads: &mut [u64],
     t: u64,
@@ -72,6 +73,24 @@ pub fn clone_thread(
         return Reply::Refused(Errno::EIO);
     }
     domain::threads::clone_thread(system, entries, rulesets, layers, pool, threads, t)
+}
+
+// Ends a thread, and gives back the layers that it alone reached: EIO, ESRCH, EBUSY.
+pub fn end_thread(
+    system: &mut [u64],
+    entries: &[u64],
+    rulesets: &[u64],
+    layers: &mut [u64],
+    pool: &mut [u64],
+    threads: &mut [u64],
+    t: u64,
+) -> Reply
+    ensures { λ answer. ⌜ outcome answer (after system entries rulesets layers pool threads) ≡ endCall (before system entries rulesets layers pool threads) t ⌝ }
+{
+    if !sound::is_sound(system, entries, rulesets, layers, pool, threads) {
+        return Reply::Refused(Errno::EIO);
+    }
+    end_apply::end_thread(system, entries, rulesets, layers, pool, threads, t)
 }
 
 // Sets a thread's no_new_privs mark, once for all: EIO, ESRCH.

@@ -19,6 +19,7 @@ ghost use Rattle.rule.specs.Rule.{pathAdded, portAdded};
 ghost use Rattle.domain_restrict.specs.Restrict.{restrictCall};
 ghost use Rattle.domain.specs.Layer.{layerRead, layerPart};
 ghost use Rattle.domain.specs.Threads.{cloned, privsSet, adminSet};
+ghost use Rattle.domain_end.specs.End.{endCall};
 ghost use Rattle.fs_access.specs.Access.{accessCall};
 ghost use Rattle.net.specs.Port.{portCall};
 ghost use Rattle.tree.specs.Create.{treeCreate, treeRemove};
@@ -210,7 +211,7 @@ pub extern "C" fn skein_clone(
     system: &[u64],
     entries: &[u64],
     rulesets: &[u64],
-    layers: &[u64],
+    layers: &mut [u64],
     pool: &[u64],
     threads: &mut [u64],
     t: u64,
@@ -218,6 +219,21 @@ pub extern "C" fn skein_clone(
     ensures { λ answer. ⌜ Answers answer (after system entries rulesets layers pool threads) (cloned (before system entries rulesets layers pool threads) t) ⌝ }
 {
     number(broker_domains::clone_thread(system, entries, rulesets, layers, pool, threads, t))
+}
+
+#[no_mangle]
+pub extern "C" fn skein_end(
+    system: &mut [u64],
+    entries: &[u64],
+    rulesets: &[u64],
+    layers: &mut [u64],
+    pool: &mut [u64],
+    threads: &mut [u64],
+    t: u64,
+) -> u64
+    ensures { λ answer. ⌜ Answers answer (after system entries rulesets layers pool threads) (endCall (before system entries rulesets layers pool threads) t) ⌝ }
+{
+    number(broker_domains::end_thread(system, entries, rulesets, layers, pool, threads, t))
 }
 
 #[no_mangle]

@@ -14,7 +14,7 @@ use Rattle.sound.specs.Call.{call}
 
 -- "a layer not in use gives .. EBADF"
 unfoldable pub layerChecks : Tables → ℕ → List Check
-layerChecks T l = not (layerInUse (T .system) l) ⇒ EBADF ∷ []
+layerChecks T l = not (layerInUse (T .layers) l) ⇒ EBADF ∷ []
 
 -- the call: a success is 0, and no cell changes
 unfoldable pub layerRead : Tables → ℕ → Outcome

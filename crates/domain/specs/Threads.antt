@@ -1,7 +1,7 @@
 -- Document 01, "Clone" and "Mark".
 use mathlib.Core.Bool.{cond, not}
 use mathlib.Core.List.{List, [], _∷_}
-use Prim.Native.Nat.{ℕ}
+use Prim.Native.Nat.{ℕ, zero, suc, _+_}
 use lib.Dec.{eqb, ltb}
 use Rattle.laws.specs.Tests.{firstBelow}
 use Rattle.laws.specs.Refusals.{Check, _⇒_}
@@ -9,7 +9,8 @@ use Rattle.laws.specs.Cells.{putCell}
 use Rattle.access.specs.Errno.{ESRCH, EAGAIN}
 use Rattle.access.specs.Limits.{maxThreads}
 use Rattle.access.specs.declared.errno.Reply.the-variants.{Done}
-use Rattle.tables.specs.Tables.{Tables, threadWidth, youngest, noNewPrivs, admin, threadLive}
+use Rattle.tables.specs.Layers.{layerHolders}
+use Rattle.tables.specs.Tables.{Tables, tables, layerWidth, threadWidth, youngest, noNewPrivs, admin, threadLive}
 use Rattle.tables.specs.Outcome.{Outcome, outcome, withThreads}
 use Rattle.sound.specs.Call.{call}
 
@@ -29,9 +30,16 @@ copiedThread ts u t =
     let c = putCell b threadWidth u 2 (noNewPrivs ts t) in
     putCell c threadWidth u 3 (admin ts t)
 
+-- document 02, W13, "a count of the threads and child layers that hold them": one holder more for the layer that a cell names
+unfoldable pub heldMore : List ℕ → ℕ → List ℕ
+heldMore ls zero = ls
+heldMore ls (suc l) = putCell ls layerWidth l 6 (layerHolders ls l + 1)
+
 -- "A success returns the new .. thread number"
 unfoldable pub cloneDone : Tables → ℕ → Outcome
-cloneDone T t = let u = freeThread (T .threads) in outcome (Done u) (withThreads T (copiedThread (T .threads) u t))
+cloneDone T t =
+    let u = freeThread (T .threads) in
+    outcome (Done u) (tables (T .system) (T .entries) (T .rulesets) (heldMore (T .layers) (youngest (T .threads) t)) (T .pool) (copiedThread (T .threads) u t))
 
 unfoldable pub cloned : Tables → ℕ → Outcome
 cloned T t = call T (cloneChecks T t) (cloneDone T t)

@@ -4,14 +4,20 @@ use access::errno::Reply;
 use access::limits::MAX_THREADS;
 use cells::row_read;
 use cells::row_write;
+use tables::rows::LAYER_WIDTH;
 use tables::rows::THREAD_WIDTH;
 use tables::rows::thread_live;
 use tables::rows::youngest_of;
 ghost use mathlib.Core.Path.{_≡_};
+ghost use mathlib.Core.Bool.{true};
+ghost use Prim.Native.Nat.{_+_, _-_, _≤_};
 ghost use Rattle.laws.specs.Refusals.{first};
-ghost use Rattle.tables.specs.Tables.{before, after};
+ghost use Rattle.access.specs.Limits.{maxLayers, maxThreads};
+ghost use Rattle.tables.specs.Tables.{tables, before, after};
+ghost use Rattle.tables.specs.Layers.{layerHolders};
 ghost use Rattle.tables.specs.Outcome.{outcome, answer};
-ghost use Rattle.domain.specs.Threads.{freeThread, cloneChecks, copiedThread, cloneDone};
+ghost use Rattle.sound.specs.Sound.{sound};
+ghost use Rattle.domain.specs.Threads.{freeThread, cloneChecks, copiedThread, heldMore, cloneDone};
 
 // The lowest number of no live thread; the number of threads if all are live.
 fn free_thread(threads: &[u64]) -> usize
@@ -60,16 +66,29 @@ fn copy_thread(threads: &mut [u64], u: usize, t: u64)
     row_write(threads, THREAD_WIDTH, u, 3, admin);
 }
 
+// One holder more for a layer (its number + 1, or 0 for none).
+fn hold_layer(layers: &mut [u64], y: u64)
+    requires { ⌜ layerHolders (now layers) (y - 1) ≤ maxThreads + maxLayers ⌝ }
+    ensures { λ r. ⌜ now (layers .exit) ≡ heldMore (now (layers .entry)) y ⌝ }
+{
+    if y == 0 {
+        return;
+    }
+    let held = row_read(layers, LAYER_WIDTH, (y - 1) as usize, 6);
+    row_write(layers, LAYER_WIDTH, (y - 1) as usize, 6, held + 1);
+}
+
 // Gives the lowest free thread a copy of a thread's domain and marks.
 pub fn clone_thread(
     system: &[u64],
     entries: &[u64],
     rulesets: &[u64],
-    layers: &[u64],
+    layers: &mut [u64],
     pool: &[u64],
     threads: &mut [u64],
     t: u64,
 ) -> Reply
+    requires { ⌜ sound (tables (now system) (now entries) (now rulesets) (now layers) (now pool) (now threads)) ≡ true ⌝ }
     ensures { λ r. ⌜ outcome r (after system entries rulesets layers pool threads) ≡ answer (before system entries rulesets layers pool threads) (cloneChecks (before system entries rulesets layers pool threads) t) (cloneDone (before system entries rulesets layers pool threads) t) ⌝ }
 {
     let e = clone_checks(system, entries, rulesets, layers, pool, threads, t);
@@ -77,6 +96,7 @@ pub fn clone_thread(
         return Reply::Refused(Errno(e));
     }
     let u = free_thread(threads);
+    hold_layer(layers, youngest_of(threads, t));
     copy_thread(threads, u, t);
     Reply::Done(u as u64)
 }

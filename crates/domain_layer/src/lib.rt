@@ -1,17 +1,9 @@
 // One layer's rules, as a part of the pool.
 use access::errno::Errno;
-use tables::rows::layers_used;
+use tables::rows::layer_in_use;
 ghost use mathlib.Core.Path.{_≡_};
 ghost use Rattle.tables.specs.Tables.{before, after};
-ghost use Rattle.tables.specs.Layers.{layerInUse};
 ghost use Rattle.domain.specs.Layer.{layerRead, layerCode, layerPart};
-
-// The layer is in use.
-fn in_use(system: &[u64], l: u64) -> bool
-    ensures { λ r. ⌜ r ≡ layerInUse (now (system .entry)) l ⌝ }
-{
-    l < layers_used(system)
-}
 
 fn layer_code(
     system: &[u64],
@@ -27,7 +19,7 @@ fn layer_code(
     if !sound::is_sound(system, entries, rulesets, layers, pool, threads) {
         return Errno::EIO.0;
     }
-    if !in_use(system, l) {
+    if !layer_in_use(layers, l) {
         return Errno::EBADF.0;
     }
     0

@@ -1,6 +1,6 @@
 -- Room for a new layer: how code comes to the test, and what a passed test tells. Assumes nothing.
 use mathlib.Core.Path.{_≡_, sym, _∙_}
-use mathlib.Core.Bool.{true, false}
+use mathlib.Core.Bool.{true, false, not}
 use mathlib.Core.List.{List}
 use Prim.Native.Nat.{ℕ, _+_, _-_, _≤_, _<_}
 use native.Mathlib.Omega.{arith}
@@ -8,11 +8,12 @@ use lib.Dec.{ltb, leb}
 use borrow.Author.Tests.{ltb-true, ltb-false, lt-ltb, leb-false, le-leb, lt-leb}
 use Rattle.laws.specs.Refusals.{first}
 use Rattle.laws.proofs.Refusals.{passed}
+use Rattle.laws.proofs.Tests.{first-bound}
 use Rattle.laws.proofs.Bools.{agree, or-l, or-r, or-left, or-right}
 use Rattle.access.specs.Limits.{maxLayers, maxPool}
 use Rattle.tables.specs.Tables.{Tables, layersUsed, poolUsed}
-use Rattle.tables.specs.Layers.{rulesetCount}
-use Rattle.domain_restrict.specs.Restrict.{noRoom, restrictForm, restrictRoom, restrictChecks}
+use Rattle.tables.specs.Layers.{rulesetCount, layerInUse}
+use Rattle.domain_restrict.specs.Restrict.{freeLayer, noRoom, restrictForm, restrictRoom, restrictChecks}
 
 module _ (sys rs : List ℕ) (r : ℕ) where
   abbrev few : ℕ
@@ -39,6 +40,11 @@ module _ (sys rs : List ℕ) (r : ℕ) where
   room h =
       let a : layersUsed sys < maxLayers = leb-false maxLayers (layersUsed sys) (or-l (leb maxLayers (layersUsed sys)) (ltb maxPool few) h) in
       (a, ltb-false maxPool few (or-r (leb maxLayers (layersUsed sys)) (ltb maxPool few) h))
+
+-- a number of a layer record, or of how many there are
+pub free-few : (ls : List ℕ) → freeLayer ls ≤ maxLayers
+unfolding freeLayer
+free-few ls = first-bound (λ l. not (layerInUse ls l)) maxLayers
 
 -- there is room where nothing refuses
 pub roomy : (T : Tables) (t r flags : ℕ) {e : ℕ} → e ≡ first (restrictChecks T t r flags) → e ≡ 0 → (layersUsed (T .system) < maxLayers) × (poolUsed (T .system) + rulesetCount (T .rulesets) r ≤ maxPool)

@@ -1,16 +1,17 @@
--- Document 01, "Restrict": a thread takes the next layer, made of a ruleset.
+-- Document 01, "Restrict", with document 02, W13: a thread takes the lowest free layer record, made of a ruleset.
 use mathlib.Core.Bool.{Bool, cond, not, _&&_, _||_}
 use mathlib.Core.List.{List, [], _∷_, _++_}
 use Prim.Native.Nat.{ℕ, _+_, _*_}
 use lib.Dec.{eqb, ltb, leb}
 use lib.ListN.{length, set}
+use Rattle.laws.specs.Tests.{firstBelow}
 use Rattle.laws.specs.Refusals.{Check, _⇒_}
 use Rattle.laws.specs.Cells.{putCell, copied}
 use Rattle.access.specs.Errno.{EPERM, ESRCH, E2BIG, EBADF, ENOMEM, EINVAL, EOPNOTSUPP}
 use Rattle.access.specs.Limits.{maxLayers, maxPool, maxDomain}
 use Rattle.access.specs.declared.errno.Reply.the-variants.{Done}
 use Rattle.tables.specs.Tables.{Tables, tables, layerWidth, ruleWidth, threadWidth, level, layersUsed, poolUsed, youngest, noNewPrivs, admin, threadLive}
-use Rattle.tables.specs.Layers.{rulesetAt, rulesetCount, isOpen}
+use Rattle.tables.specs.Layers.{rulesetAt, rulesetCount, isOpen, layerInUse}
 use Rattle.tables.specs.Outcome.{Outcome, outcome}
 use Rattle.judge.specs.Domain.{domain}
 use Rattle.sound.specs.Call.{call}
@@ -47,7 +48,12 @@ restrictRoom T t r =
 unfoldable pub restrictChecks : Tables → ℕ → ℕ → ℕ → List Check
 restrictChecks T t r flags = restrictForm (T .system) (T .threads) t flags ++ restrictRoom T t r
 
--- a layer's row: parent (its number + 1, or 0), the masks asked for, the first pool rule, the number of rules.
+-- "A new layer takes the lowest free record"
+unfoldable pub freeLayer : List ℕ → ℕ
+freeLayer ls = firstBelow (λ l. not (layerInUse ls l)) maxLayers
+
+-- a layer's row: parent (its number + 1, or 0), the masks asked for, the first pool rule, the number of rules, and one holder, the thread.
+-- The parent's holders stay as many: the new layer for the thread.
 -- An empty run stores 0 as its first rule (docs/DECISIONS.md)
 unfoldable pub layerRow : List ℕ → ℕ → ℕ → ℕ → ℕ → ℕ → ℕ → ℕ → List ℕ
 layerRow ls l parent fs net scope first count =
@@ -56,9 +62,10 @@ layerRow ls l parent fs net scope first count =
     let c = putCell b layerWidth l 2 net in
     let d = putCell c layerWidth l 3 scope in
     let e = putCell d layerWidth l 4 (cond (eqb count 0) 0 first) in
-    putCell e layerWidth l 5 count
+    let f = putCell e layerWidth l 5 count in
+    putCell f layerWidth l 6 1
 
--- "a layer takes the next record and the next pool places": the layers used, then the pool rules used
+-- "the next pool places": the number of layers used, then the pool rules used
 unfoldable pub counted : List ℕ → ℕ → List ℕ
 counted sys count = set (set sys 2 (layersUsed sys + 1)) 3 (poolUsed sys + count)
 
@@ -67,7 +74,7 @@ unfoldable pub restricted : Tables → ℕ → ℕ → Tables
 restricted T t r =
     let L = rulesetAt (T .rulesets) r in
     let n = rulesetCount (T .rulesets) r in
-    let l = layersUsed (T .system) in
+    let l = freeLayer (T .layers) in
     let p = poolUsed (T .system) in
     tables
     (counted (T .system) n)

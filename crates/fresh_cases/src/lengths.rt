@@ -44,7 +44,7 @@ pub fn wrong(
     let mut system = [1u64; 5];
     let mut entries = [1u64; 3073];
     let mut rulesets = [1u64; 3137];
-    let mut layers = [1u64; 1537];
+    let mut layers = [1u64; 1793];
     let mut pool = [1u64; 3073];
     let mut threads = [1u64; 33];
     answers(

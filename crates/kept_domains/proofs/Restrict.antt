@@ -1,34 +1,41 @@
 -- Restrict keeps sound tables sound. Assumes nothing.
 use mathlib.Core.Path.{_≡_, refl, sym, _∙_}
-use mathlib.Core.Bool.{true}
+use mathlib.Core.Bool.{true, false, not, _||_}
 use mathlib.Core.List.{List}
-use Prim.Native.Nat.{ℕ, _+_, _-_, _*_, _≤_, _<_}
+use Prim.Native.Nat.{ℕ, suc, _+_, _-_, _*_, _≤_, _<_}
+use native.Mathlib.Numerals.{add-one, sub-one}
 use native.Mathlib.Omega.{arith}
-use lib.Dec.{ltb}
+use lib.Dec.{eqb, ltb, leb}
 use lib.ListN.{length, getD, set, length-set}
 use lib.Seq.{getD-set-same, getD-set-other}
-use borrow.Author.Tests.{eqb-false, leb-false, ltb-true, ltb-false, not-false}
+use borrow.Author.Tests.{eqb-true, eqb-false, eq-eqb, ne-eqb, leb-false, ltb-true, ltb-false, not-true, not-false}
 use Rattle.laws.specs.Cells.{putCell}
 use Rattle.laws.specs.Refusals.{first}
 use Rattle.laws.proofs.Bools.{split, clash}
 use Rattle.laws.proofs.Cells.{cell-put, cell-put-beside, length-putCell}
 use Rattle.laws.proofs.Refusals.{passed}
+use Rattle.laws.specs.Sums.{sumBelow, bit, tally}
+use Rattle.laws.proofs.Sums.{bit-yes, bit-no, tally-room}
+use Rattle.laws.proofs.Tests.{first-passes}
 use Rattle.access.specs.Limits.{maxRulesets, maxLayers, maxPool, maxThreads, maxDomain}
 use Rattle.tables.specs.Tables.{Tables, systemWidth, rulesetWidth, layerWidth, threadWidth, level, counter, layersUsed, poolUsed, youngest, threadLive}
-use Rattle.tables.specs.Layers.{handlesAny, rulesetCount, isOpen}
+use Rattle.tables.specs.Layers.{handlesAny, rulesetCount, isOpen, layerParent, layerCount, layerHolders, layerInUse}
 use Rattle.judge.specs.Domain.{domain}
-use Rattle.sound_domains.specs.Domains.{chainEnds}
+use Rattle.sound_domains.specs.Domains.{chainEnds, holders}
 use Rattle.sound_domains.proofs.Chains.{chain-up}
 use Rattle.sound_domains.proofs.Facts.{LiveThread, Threads}
+use Rattle.sound_domains.proofs.Hierarchy.{Hierarchy, no-due, no-thread, no-layer}
+use Rattle.sound_domains.proofs.Holders.{holders-thread, holders-layer}
 use Rattle.sound.specs.Sound.{sound}
 use Rattle.sound.proofs.Facts.{Sound, facts, sound-of}
-use Rattle.domain_restrict.specs.Restrict.{restrictForm, isDeep, restrictRoom, restrictChecks, counted, restricted, restrictDone, restrictCall}
+use Rattle.domain_restrict.specs.Restrict.{restrictForm, isDeep, noRoom, restrictRoom, restrictChecks, freeLayer, counted, restricted, restrictDone, restrictCall}
 use Rattle.domain_restrict.proofs.Room.{roomy}
 use Rattle.sound.proofs.Calls.{kept-call}
-use Rattle.kept_domains.proofs.Rows.{has-row, row-past, row-beside}
+use Rattle.kept_domains.proofs.Rows.{HasRow, has-row, row-past, row-beside}
 use Rattle.kept_domains.proofs.Threads.{live-below, threads-changed}
-use Rattle.kept_domains.proofs.Chains.{chain-short, chain-kept}
-use Rattle.kept_domains.proofs.Layers.{newLayers, new-length, new-other, new-parent, pool-length, layers-new}
+use Rattle.kept_domains.proofs.Chains.{chain-short, ends-around}
+use Rattle.kept_domains.proofs.Counts.{unused-none}
+use Rattle.kept_domains.proofs.Layers.{newLayers, new-length, new-other, new-parent, new-held, pool-length, layers-new}
 
 -- ---- what the checks tell
 pub record Allowed (T : Tables) (t r : ℕ) : Type 0 where
@@ -52,6 +59,12 @@ allowed T t r flags z =
       room = q .0;
       space = q .1;
     }
+
+-- document 02, W13, "ENOMEM is given exactly if live layers and rules leave too little room": the records in use, and their rules
+pub room-exact : (T : Tables) (r : ℕ) → Sound T
+    → noRoom (T .system) (T .rulesets) r ≡ (leb maxLayers (tally (layerInUse (T .layers)) maxLayers) || ltb maxPool (sumBelow (layerCount (T .layers)) maxLayers + rulesetCount (T .rulesets) r))
+unfolding noRoom
+room-exact T r S = rw (S .layers .counted, S .layers .filled) refl
 
 -- an open ruleset is one of those that there can be
 open-below : (rs : List ℕ) (r : ℕ) → length rs ≡ rulesetWidth * maxRulesets → isOpen rs r ≡ true → r < maxRulesets
@@ -98,8 +111,9 @@ module _ (T : Tables) (t r : ℕ) (S : Sound T) (A : Allowed T t r) where
   abbrev ts : List ℕ
   ts = T .threads
 
+  -- the record taken
   abbrev used : ℕ
-  used = layersUsed sys
+  used = freeLayer ls
 
   abbrev y : ℕ
   y = youngest ts t
@@ -113,35 +127,90 @@ module _ (T : Tables) (t r : ℕ) (S : Sound T) (A : Allowed T t r) where
   below : t < maxThreads
   below = live-below ts t (S .lengths .threads) (A .live)
 
-  thread : LiveThread ls ts used t
+  record-room : used < maxLayers
+  unfolding freeLayer
+  record-room = tally-room (layerInUse ls) maxLayers (let c = S .layers .counted in let r = A .room in omega arith)
+
+  pub record-free : layerInUse ls used ≡ false
+  unfolding freeLayer
+  record-free = not-true (layerInUse ls used) (first-passes (λ l. not (layerInUse ls l)) maxLayers record-room)
+
+  pub unheld : holders ls ts (suc used) ≡ 0
+  unheld = let z = unused-none ls used record-free in let h = S .hierarchy .held used record-room in omega arith
+
+  pub unnamed : (m : ℕ) → layerParent ls m ≡ suc used → ⊥
+  unnamed = no-layer ls ts used unheld (S .lengths .layers)
+
+  pub has : HasRow ls layerWidth used
+  has = has-row ls layerWidth maxLayers used (S .lengths .layers) record-room
+
+  pub same-parent : (m : ℕ) → (m ≡ used → ⊥) → layerParent ls′ m ≡ layerParent ls m
+  same-parent m d = new-other ls rs used (poolUsed sys) r y m d 0 (omega arith)
+
+  thread : LiveThread ls ts maxLayers t
   thread = S .threads .live t below (A .live)
 
   -- chains from layers in use
-  chains : (n z : ℕ) → z ≤ used → chainEnds ls′ n z ≡ chainEnds ls n z
-  chains = chain-kept ls ls′ used (λ l h. new-other ls rs used (poolUsed sys) r y l (λ e. omega arith) 0 (omega arith)) (λ l h. S .layers .each l h .parent-smaller)
+  chains : (n z : ℕ) → (z ≡ suc used → ⊥) → chainEnds ls′ n z ≡ chainEnds ls n z
+  chains = ends-around ls ls′ used unnamed same-parent
 
   -- and the one from the new layer
-  chain-new : chainEnds ls′ maxDomain (used + 1) ≡ true
+  chain-new : chainEnds ls′ maxDomain (suc used) ≡ true
   unfolding domain
   chain-new =
-      let e : used + 1 - 1 ≡ used = omega arith in
-      chain-up ls′ maxDomain (used + 1) (λ z. omega arith) (λ z. omega arith)
-      ∙ rw (e, new-parent ls rs used (poolUsed sys) r y (has-row ls layerWidth maxLayers used (S .lengths .layers) (A .room)))
-      (chains (maxDomain - 1) y (thread .in-use) ∙ chain-short ls (maxDomain - 1) y (A .short))
+      chain-up ls′ maxDomain (suc used) (λ z. omega arith) (λ z. omega arith)
+      ∙ rw (sub-one (suc used), new-parent ls rs used (poolUsed sys) r y has)
+      (chains (maxDomain - 1) y (no-thread ls ts used unheld t below) ∙ chain-short ls (maxDomain - 1) y (A .short))
 
-  threads-new : Threads ls′ ts′ (used + 1)
+  chains-all : (z : ℕ) → z ≤ maxLayers → chainEnds ls′ maxDomain z ≡ chainEnds ls maxDomain z
+  chains-all z h = split (eqb z (suc used))
+      (λ q. rw (eqb-true z (suc used) q) (chain-new ∙ sym (S .hierarchy .ends used record-room)))
+      (λ q. chains maxDomain z (eqb-false z (suc used) q))
+
+  threads-new : Threads ls′ ts′ maxLayers
   threads-new =
       let L = thread in
       let e : youngest ts′ t ≡ used + 1 = cell-put ts threadWidth t 1 (used + 1) (let w = S .lengths .threads in let b = below in omega arith) in
-      threads-changed ls ls′ ts ts′ used (used + 1) t (omega arith) (chains maxDomain) (λ u d. row-beside ts threadWidth t 1 (used + 1) u (omega arith) d)
+      let b = record-room in
+      threads-changed ls ls′ ts ts′ maxLayers maxLayers t (omega arith) chains-all (λ u d. row-beside ts threadWidth t 1 (used + 1) u (omega arith) d)
       (record {
         state = cell-put-beside ts threadWidth t 1 (used + 1) 0 (λ z. omega arith) ∙ L .state;
         in-use = rw e (omega arith);
         privs-mark = rw (cell-put-beside ts threadWidth t 1 (used + 1) 2 (λ z. omega arith)) (L .privs-mark);
         admin-mark = rw (cell-put-beside ts threadWidth t 1 (used + 1) 3 (λ z. omega arith)) (L .admin-mark);
-        domain = rw e chain-new;
+        domain = rw (e, add-one used) chain-new;
       })
       (S .threads)
+
+  -- the thread holds the new layer, and the new layer in its place the thread's old one
+  hierarchy-new : Hierarchy ls′ ts′ 0
+  hierarchy-new = record {
+    parents = λ m h. split (eqb m used)
+        (λ q. rw (eqb-true m used q, new-parent ls rs used (poolUsed sys) r y has) (thread .in-use))
+        (λ q. rw (same-parent m (eqb-false m used q)) (S .hierarchy .parents m h));
+    ends = λ m h. chains-all (suc m) h ∙ S .hierarchy .ends m h;
+    held = λ m h.
+        let e : youngest ts′ t ≡ suc used = cell-put ts threadWidth t 1 (used + 1) (let w = S .lengths .threads in let b = below in omega arith) ∙ add-one used in
+        let a = holders-thread ls ls ts ts′ (suc m) t below (λ u k d. row-beside ts threadWidth t 1 (used + 1) u (omega arith) d 1 (omega arith)) (λ i k. refl) in
+        let b = holders-layer ls ls′ ts′ ts′ (suc m) used record-room (λ u k. refl) (λ i k d. same-parent i d) in
+        let c : bit (eqb (layerParent ls used) (suc m)) ≡ 0 = rw (S .layers .free used record-room record-free 0 (omega arith)) (no-due m) in
+        let d : bit (eqb (layerParent ls′ used) (suc m)) ≡ bit (eqb y (suc m)) = rw (new-parent ls rs used (poolUsed sys) r y has) refl in
+        let f : bit (eqb (youngest ts′ t) (suc m)) ≡ bit (eqb (suc used) (suc m)) = rw e refl in
+        let n = no-due m in
+        split (eqb m used)
+        (λ q.
+        let z = eqb-true m used q in
+        let g : bit (eqb (suc used) (suc m)) ≡ 1 = bit-yes (eqb (suc used) (suc m)) (eq-eqb (suc used) (suc m) (omega arith)) in
+        let i : layerHolders ls′ m ≡ 1 = rw z (new-held ls rs used (poolUsed sys) r y has) in
+        let j : holders ls ts (suc m) ≡ 0 = rw z unheld in
+        omega arith)
+        (λ q.
+        let z = eqb-false m used q in
+        let g : bit (eqb (suc used) (suc m)) ≡ 0 = bit-no (eqb (suc used) (suc m)) (ne-eqb (suc used) (suc m) (λ x. z (omega arith))) in
+        let i = new-other ls rs used (poolUsed sys) r y m z 6 (omega arith) in
+        let j = S .hierarchy .held m h in
+        omega arith);
+  }
 
   restrict-sound : Sound (restricted T t r)
   unfolding restricted
@@ -170,12 +239,13 @@ module _ (T : Tables) (t r : ℕ) (S : Sound T) (A : Allowed T t r) where
           no-layer = λ z. absurd (A .some-level (sym lv ∙ z));
           no-ruleset = λ z. absurd (A .some-level (sym lv ∙ z));
         };
-        threads = rw lu threads-new;
+        threads = threads-new;
+        hierarchy = hierarchy-new;
         tree = rw ct (S .tree);
         rulesets = rw (ct, lv) (S .rulesets);
         layers = rw (ct, lv, lu, pu)
-            (layers-new (T .entries) (counter sys) (level sys) ls (T .pool) rs used (poolUsed sys) r y (S .lengths .layers) (S .lengths .pool) (S .lengths .rulesets)
-            low (A .opens) (S .rulesets .opened r low (A .opens)) (thread .in-use) (A .room) (A .space) (S .layers));
+            (layers-new (T .entries) (counter sys) (level sys) ls (T .pool) rs used (poolUsed sys) r y (layersUsed sys) (S .lengths .layers) (S .lengths .pool) (S .lengths .rulesets)
+            low (A .opens) (S .rulesets .opened r low (A .opens)) record-free record-room (A .space) (S .layers));
       }
 
 -- ---- the call

@@ -1,6 +1,7 @@
 // A thread given a new layer of a ruleset.
 use access::errno::Errno;
 use access::errno::Reply;
+use access::limits::MAX_LAYERS;
 use cells::copy;
 use cells::row_read;
 use cells::row_write;
@@ -11,6 +12,7 @@ use tables::rows::LAYER_WIDTH;
 use tables::rows::RULE_WIDTH;
 use tables::rows::RULESET_WIDTH;
 use tables::rows::THREAD_WIDTH;
+use tables::rows::layer_in_use;
 use tables::rows::layers_used;
 use tables::rows::pool_used;
 use tables::rows::youngest_of;
@@ -21,7 +23,21 @@ ghost use Rattle.access.specs.Limits.{maxLayers, maxPool};
 ghost use Rattle.tables.specs.Tables.{before, after, layersUsed, poolUsed};
 ghost use Rattle.tables.specs.Layers.{rulesetCount};
 ghost use Rattle.tables.specs.Outcome.{outcome, answer};
-ghost use Rattle.domain_restrict.specs.Restrict.{restrictChecks, layerRow, counted, restricted, restrictDone};
+ghost use Rattle.domain_restrict.specs.Restrict.{restrictChecks, freeLayer, layerRow, counted, restricted, restrictDone};
+
+// The lowest layer record not in use; the number of records if all are.
+fn free_layer(layers: &[u64]) -> u64
+    ensures { λ r. ⌜ r ≡ freeLayer (now (layers .entry)) ⌝ }
+{
+    let mut l = 0;
+    while l < MAX_LAYERS as u64 {
+        if !layer_in_use(layers, l) {
+            return l;
+        }
+        l += 1;
+    }
+    l
+}
 
 fn put_layer(
     layers: &mut [u64],
@@ -47,6 +63,7 @@ fn put_layer(
         if count == 0 { 0 } else { first },
     );
     row_write(layers, LAYER_WIDTH, l as usize, 5, count);
+    row_write(layers, LAYER_WIDTH, l as usize, 6, 1);
 }
 
 // Counts the new layer and its rules.
@@ -73,7 +90,7 @@ fn apply_restrict(
     requires { ⌜ (layersUsed (now system) < maxLayers) × (poolUsed (now system) + rulesetCount (now rulesets) r ≤ maxPool) ⌝ }
     ensures { λ q. ⌜ after system entries rulesets layers pool threads ≡ restricted (before system entries rulesets layers pool threads) t r ⌝ }
 {
-    let l = layers_used(system);
+    let l = free_layer(layers);
     let p = pool_used(system);
     let fs = row_read(rulesets, RULESET_WIDTH, r as usize, 0);
     let net = row_read(rulesets, RULESET_WIDTH, r as usize, 1);

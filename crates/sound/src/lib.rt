@@ -3,8 +3,8 @@ use access::limits::MAX_COUNTER;
 use access::limits::MAX_LEVEL;
 use access::limits::MAX_RULESETS;
 use access::rights::Rights;
-use sound_domains::threads_sound;
 use sound_entries::entries_sound;
+use sound_holders::domains_sound;
 use sound_objects::rows_used;
 use sound_rulesets::rulesets_sound;
 use sound_runs::layers_sound;
@@ -87,7 +87,7 @@ fn parts_sound(
     if !level_zero_sound(system, rulesets) {
         return false;
     }
-    if !threads_sound(layers, threads, used) {
+    if !domains_sound(layers, threads) {
         return false;
     }
     let end = rows_used(entries);

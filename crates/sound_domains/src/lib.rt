@@ -64,7 +64,7 @@ fn thread_sound(layers: &[u64], threads: &[u64], used: u64, t: usize) -> bool
     chain_ends(layers, youngest)
 }
 
-// The threads are sound; `used` layers are in use.
+// The threads are sound; `used` is the number of layer records.
 pub fn threads_sound(layers: &[u64], threads: &[u64], used: u64) -> bool
     requires { ⌜ (length (now layers) ≡ layerWidth * maxLayers) × (length (now threads) ≡ threadWidth * maxThreads) ⌝ }
     ensures { λ r. ⌜ r ≡ threadsSound (now (layers .entry)) (now (threads .entry)) used ⌝ }

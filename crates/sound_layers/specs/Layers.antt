@@ -1,18 +1,15 @@
--- Document 01, "Tables are sound if": the clauses on layers and the pool.
+-- Document 01, "Tables are sound if", with document 02, W13: the clauses on layers and the pool.
 use mathlib.Core.Bool.{Bool, true, cond, _||_}
 use mathlib.Core.List.{List, [], _∷_}
 use Prim.Native.Nat.{ℕ, _+_, _*_}
 use lib.Dec.{eqb, leb}
 use Rattle.laws.specs.Tests.{allBelow, allOf}
+use Rattle.laws.specs.Sums.{sumBelow, tally}
 use Rattle.laws.specs.Cells.{part, zeros}
 use Rattle.access.specs.Limits.{maxLayers, maxRules, maxPool}
 use Rattle.tables.specs.Tables.{layerWidth, ruleWidth}
-use Rattle.tables.specs.Layers.{handlesAny, layerParent, layerFirst, layerCount, layerAt}
+use Rattle.tables.specs.Layers.{handlesAny, layerFirst, layerCount, layerAt, layerInUse}
 use Rattle.sound_rules.specs.Rules.{rulesSound, masksKnown}
-
--- "a layer's parent has a smaller number": the cell holds the number + 1, or 0 for none
-abbrev pub parentSmaller : List ℕ → ℕ → Bool
-parentSmaller ls l = leb (layerParent ls l) l
 
 -- the run of a layer, by its first rule and its number of rules: "its rules, at most 64"; "rule runs lie in the used pool";
 -- an empty run stores 0 as its first rule (docs/DECISIONS.md)
@@ -24,8 +21,7 @@ unfoldable pub layerSound : List ℕ → ℕ → ℕ → List ℕ → List ℕ �
 layerSound es next level ls ps poolUsed l =
     let L = layerAt ls ps l in
     allOf
-    (parentSmaller ls l
-    ∷ runPlaced (layerFirst ls l) (layerCount ls l) poolUsed
+    (runPlaced (layerFirst ls l) (layerCount ls l) poolUsed
     ∷ handlesAny (L .fs) (L .net) (L .scope)
     ∷ masksKnown level (L .fs) (L .net) (L .scope)
     ∷ rulesSound es next (L .fs) (L .net) (L .rules)
@@ -39,18 +35,34 @@ runsApart ls l m = leb (layerFirst ls l + layerCount ls l) (layerFirst ls m) || 
 unfoldable pub runSound : List ℕ → ℕ → Bool
 runSound ls l = allBelow (runsApart ls l) l
 
--- "layers in use come first"; "free space is zero"
-unfoldable pub restZero : List ℕ → List ℕ → ℕ → ℕ → Bool
-restZero ls ps used poolUsed =
-    allOf (zeros (part ls (layerWidth * used) (layerWidth * maxLayers)) ∷ zeros (part ps (ruleWidth * poolUsed) (ruleWidth * maxPool)) ∷ [])
+-- "free space is zero": a record that nothing holds
+unfoldable pub layerFree : List ℕ → ℕ → Bool
+layerFree ls l = zeros (part ls (layerWidth * l) (layerWidth * l + layerWidth))
+
+-- "layers in use needn't come first"
+unfoldable pub recordSound : List ℕ → ℕ → ℕ → List ℕ → List ℕ → ℕ → ℕ → Bool
+recordSound es next level ls ps poolUsed l = cond (layerInUse ls l) (layerSound es next level ls ps poolUsed l) (layerFree ls l)
+
+-- the cell `layers used` is the number of records in use (docs/DECISIONS.md)
+unfoldable pub layersCounted : List ℕ → ℕ → Bool
+layersCounted ls used = eqb used (tally (layerInUse ls) maxLayers)
+
+-- "a used pool filled by the runs": runs in it that do not overlap, and as many rules as it has
+unfoldable pub poolFilled : List ℕ → ℕ → Bool
+poolFilled ls poolUsed = eqb poolUsed (sumBelow (layerCount ls) maxLayers)
+
+-- "free space is zero": the pool
+unfoldable pub poolRest : List ℕ → ℕ → Bool
+poolRest ps poolUsed = zeros (part ps (ruleWidth * poolUsed) (ruleWidth * maxPool))
 
 -- "counters are in range"
 unfoldable pub layersSound : List ℕ → ℕ → ℕ → List ℕ → List ℕ → ℕ → ℕ → Bool
 layersSound es next level ls ps used poolUsed =
     allOf
-    (leb used maxLayers
+    (layersCounted ls used
     ∷ leb poolUsed maxPool
-    ∷ allBelow (layerSound es next level ls ps poolUsed) used
-    ∷ allBelow (runSound ls) used
-    ∷ restZero ls ps used poolUsed
+    ∷ allBelow (recordSound es next level ls ps poolUsed) maxLayers
+    ∷ allBelow (runSound ls) maxLayers
+    ∷ poolFilled ls poolUsed
+    ∷ poolRest ps poolUsed
     ∷ [])

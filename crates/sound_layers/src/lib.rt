@@ -1,8 +1,10 @@
-// The soundness test of each layer by itself. `used` layers and `taken` pool rules are in use.
+// The soundness test of each layer record by itself. `taken` pool rules are in use.
+use access::limits::MAX_LAYERS;
 use access::limits::MAX_RULES;
 use access::rights::Rights;
 use sound_keys::rules_sound;
 use sound_rules::masks_known;
+use sound_zero::all_zero;
 use tables::rows::LAYER_WIDTH;
 use tables::rows::RULE_WIDTH;
 use tables::rows::handles_any;
@@ -13,7 +15,7 @@ ghost use Rattle.laws.specs.Tests.{allBelow};
 ghost use Rattle.access.specs.Limits.{maxEntries, maxLayers, maxPool};
 ghost use Rattle.tables.specs.Tables.{entryWidth, layerWidth, ruleWidth};
 ghost use Rattle.sound_objects.specs.Objects.{Indexed};
-ghost use Rattle.sound_layers.specs.Layers.{runPlaced, layerSound};
+ghost use Rattle.sound_layers.specs.Layers.{runPlaced, layerSound, recordSound};
 
 // The run of a layer, by its first rule and its number of rules.
 fn run_placed(first: u64, count: u64, taken: u64) -> bool
@@ -49,9 +51,6 @@ fn layer_sound(
     ensures { λ r. ⌜ r ≡ layerSound (now (entries .entry)) next level (now (layers .entry)) (now (pool .entry)) taken l ⌝ }
 {
     let at = LAYER_WIDTH * l;
-    if layers[at] > l as u64 {
-        return false;
-    }
     let first = layers[at + 4];
     let count = layers[at + 5];
     if !run_placed(first, count, taken) {
@@ -71,6 +70,28 @@ fn layer_sound(
     rules_sound(entries, heads, links, next, fs, net, &pool[from..to])
 }
 
+// A record that nothing holds is zero; a layer in use is sound.
+fn record_sound(
+    entries: &[u64],
+    heads: &[u64],
+    links: &[u64],
+    next: u64,
+    level: u64,
+    layers: &[u64],
+    pool: &[u64],
+    taken: u64,
+    l: usize,
+) -> bool
+    requires { ⌜ (length (now layers) ≡ layerWidth * maxLayers) × ((length (now pool) ≡ ruleWidth * maxPool) × ((taken ≤ maxPool) × ((l < maxLayers) × ((length (now entries) ≡ entryWidth * maxEntries) × Indexed (now entries) (now heads) (now links))))) ⌝ }
+    ensures { λ r. ⌜ r ≡ recordSound (now (entries .entry)) next level (now (layers .entry)) (now (pool .entry)) taken l ⌝ }
+{
+    let at = LAYER_WIDTH * l;
+    if layers[at + 6] == 0 {
+        return all_zero(&layers[at..at + LAYER_WIDTH]);
+    }
+    layer_sound(entries, heads, links, next, level, layers, pool, taken, l)
+}
+
 pub fn each_sound(
     entries: &[u64],
     heads: &[u64],
@@ -79,16 +100,14 @@ pub fn each_sound(
     level: u64,
     layers: &[u64],
     pool: &[u64],
-    used: u64,
     taken: u64,
 ) -> bool
-    requires { ⌜ (length (now layers) ≡ layerWidth * maxLayers) × ((length (now pool) ≡ ruleWidth * maxPool) × ((taken ≤ maxPool) × ((used ≤ maxLayers) × ((length (now entries) ≡ entryWidth * maxEntries) × Indexed (now entries) (now heads) (now links))))) ⌝ }
-    ensures { λ r. ⌜ r ≡ allBelow (layerSound (now (entries .entry)) next level (now (layers .entry)) (now (pool .entry)) taken) used ⌝ }
+    requires { ⌜ (length (now layers) ≡ layerWidth * maxLayers) × ((length (now pool) ≡ ruleWidth * maxPool) × ((taken ≤ maxPool) × ((length (now entries) ≡ entryWidth * maxEntries) × Indexed (now entries) (now heads) (now links)))) ⌝ }
+    ensures { λ r. ⌜ r ≡ allBelow (recordSound (now (entries .entry)) next level (now (layers .entry)) (now (pool .entry)) taken) maxLayers ⌝ }
 {
-    let n = used as usize;
     let mut l = 0;
-    while l < n {
-        if layer_sound(entries, heads, links, next, level, layers, pool, taken, l) {
+    while l < MAX_LAYERS {
+        if record_sound(entries, heads, links, next, level, layers, pool, taken, l) {
             l += 1;
         } else {
             return false;

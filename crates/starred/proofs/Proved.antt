@@ -12,7 +12,7 @@ use Rattle.access.specs.Limits.{maxLevel}
 use Rattle.access.specs.declared.errno.Reply.{Reply}
 use Rattle.access.specs.declared.errno.Reply.the-variants.{Done}
 use Rattle.tables.specs.Tables.{Tables, object, live, isDir, pastFileSet, pathRule, threadLive}
-use Rattle.tables.specs.Layers.{handlesAny, rulesetAt, isOpen, layerAt}
+use Rattle.tables.specs.Layers.{handlesAny, rulesetAt, isOpen, layerAt, layerInUse}
 use Rattle.tables.specs.Outcome.{Outcome, outcome, answer}
 use Rattle.tables.specs.Fresh.{freshTables}
 use Rattle.sound_rules.specs.Rules.{masksKnown}
@@ -26,7 +26,7 @@ use Rattle.judge.specs.Domain.{chain, domain, layerLacks, lacks}
 use Rattle.ruleset.specs.Attribute.{number, knownSize, strayByte, stray}
 use Rattle.ruleset.specs.Create.{freeRuleset, createForm, createMasks, createChecks, opened, createDone, created}
 use Rattle.rule.specs.Rule.{addForm, isFull, sweeping, pathForm, addPathChecks, appended, added, addDone, pathAdded}
-use Rattle.domain_restrict.specs.Restrict.{unmarked, restrictForm, isDeep, noRoom, restrictRoom, restrictChecks, layerRow, counted, restricted, restrictDone, restrictCall}
+use Rattle.domain_restrict.specs.Restrict.{unmarked, restrictForm, isDeep, noRoom, restrictRoom, restrictChecks, freeLayer, layerRow, counted, restricted, restrictDone, restrictCall}
 use Rattle.domain.specs.Threads.{markChecks, markDone, privsSet}
 use Rattle.fs_access.specs.Access.{accessNames, accessMask, accessChecks, accessCall}
 use Rattle.fs.specs.Needs.{sourceNeeds, targetNeeds}
@@ -36,7 +36,7 @@ use Rattle.tree.specs.Moves.{needsFrom, needsTo, moveOf}
 use Rattle.tree.specs.Create.{createShape, createVerdict, createLater, treeCreateChecks, treeCreated, treeCreate}
 use Rattle.tree.specs.Link.{linkShape, linkVerdict, linkLater, linkChecks, linked, treeLink}
 use Rattle.tree.specs.Rename.{renameNames, renameShape, renameVerdict, renameLater, renameChecks, dropped, moved, treeRename}
-use Rattle.theorems.specs.Calls.{Call, create-ruleset, close-ruleset, add-path-rule, add-port-rule, restrict, layer-rules, clone, set-no-new-privs, set-admin, access, port, create, remove, link, rename, exchange, outcomeOf, after, afterAll}
+use Rattle.theorems.specs.Calls.{Call, create-ruleset, close-ruleset, add-path-rule, add-port-rule, restrict, layer-rules, clone, end-thread, set-no-new-privs, set-admin, access, port, create, remove, link, rename, exchange, outcomeOf, after, afterAll}
 use Rattle.theorems.proofs.Kept.{kept, never-unsound}
 use Rattle.starred.specs.Starred.{Case, cases, given, Starred}
 
@@ -54,6 +54,7 @@ played T (close-ruleset r) = outcomeOf T (close-ruleset r)
 played T (add-port-rule r p rights flags) = outcomeOf T (add-port-rule r p rights flags)
 played T (layer-rules l) = outcomeOf T (layer-rules l)
 played T (clone t) = outcomeOf T (clone t)
+played T (end-thread t) = outcomeOf T (end-thread t)
 played T (set-admin t on) = outcomeOf T (set-admin t on)
 played T (port t p m) = outcomeOf T (port t p m)
 played T (remove t e) = outcomeOf T (remove t e)
@@ -77,6 +78,7 @@ same T (close-ruleset r) h = refl
 same T (add-port-rule r p rights flags) h = refl
 same T (layer-rules l) h = refl
 same T (clone t) h = refl
+same T (end-thread t) h = refl
 same T (set-admin t on) h = refl
 same T (port t p m) h = refl
 same T (remove t e) h = refl
@@ -106,11 +108,11 @@ played-given c =
 played-cases : map playedReply cases ≡ map (λ c. c .answer) cases
 unfolding anyBelow allOf firstFrom firstBelow any first copied
     knownFs knownNet knownScope kindOf
-    live isDir pastFileSet threadLive handlesAny rulesetAt isOpen layerAt answer freshTables masksKnown
+    live isDir pastFileSet threadLive handlesAny rulesetAt isOpen layerAt layerInUse answer freshTables masksKnown
     isRule rulePlace rightsOn grants granted handled denied missing chain domain layerLacks lacks
     number knownSize strayByte stray freeRuleset createForm createMasks createChecks opened createDone
     addForm isFull sweeping pathForm addPathChecks appended added addDone
-    unmarked restrictForm isDeep noRoom restrictRoom restrictChecks layerRow counted restricted restrictDone markChecks markDone
+    unmarked restrictForm isDeep noRoom restrictRoom restrictChecks freeLayer layerRow counted restricted restrictDone markChecks markDone
     accessNames accessMask accessChecks sourceNeeds targetNeeds
     entryRights deniedNeeds deniedRefer uncontained escaping crossing layerDenies layerCrosses verdict
     freeEntry unknownKind above replacing putEntry putParent needsFrom needsTo moveOf

@@ -12,7 +12,7 @@ ghost use mathlib.Core.Path.{_≡_};
 ghost use Prim.Native.Nat.{_<_};
 ghost use Rattle.laws.specs.Cells.{cell};
 ghost use Rattle.tables.specs.Tables.{entryWidth, before, lengthsRight, level, counter, layersUsed, poolUsed, kind, parent, object, live, isDir, pastFileSet, youngest, threadLive};
-ghost use Rattle.tables.specs.Layers.{handlesAny, isOpen};
+ghost use Rattle.tables.specs.Layers.{handlesAny, isOpen, layerInUse};
 
 pub const SYSTEM_WIDTH: usize = 4;
 
@@ -24,7 +24,7 @@ pub const RULESET_HEAD: usize = 4;
 
 pub const RULESET_WIDTH: usize = RULESET_HEAD + RULE_WIDTH * MAX_RULES;
 
-pub const LAYER_WIDTH: usize = 6;
+pub const LAYER_WIDTH: usize = 7;
 
 pub const THREAD_WIDTH: usize = 4;
 
@@ -178,6 +178,13 @@ pub fn ruleset_open(rulesets: &[u64], r: u64) -> bool
     let net = row_read(rulesets, RULESET_WIDTH, r as usize, 1);
     let scope = row_read(rulesets, RULESET_WIDTH, r as usize, 2);
     handles_any(Rights(fs), Rights(net), Rights(scope))
+}
+
+// The layer is in use: something holds it.
+pub fn layer_in_use(layers: &[u64], l: u64) -> bool
+    ensures { λ r. ⌜ r ≡ layerInUse (now (layers .entry)) l ⌝ }
+{
+    row_read(layers, LAYER_WIDTH, l as usize, 6) != 0
 }
 
 pub fn thread_live(threads: &[u64], t: u64) -> bool

@@ -16,10 +16,11 @@ use Rattle.kept_rulesets.proofs.Create.{kept-created, kept-closed}
 use Rattle.kept_rulesets.proofs.Add.{kept-path-added, kept-port-added}
 use Rattle.kept_domains.proofs.Marks.{kept-cloned, kept-privs-set, kept-admin-set}
 use Rattle.kept_domains.proofs.Restrict.{kept-restricted}
+use Rattle.kept_end.proofs.End.{kept-ended}
 use Rattle.kept_tree.proofs.Fill as fill
 use Rattle.kept_tree.proofs.Clear.{kept-removed}
 use Rattle.kept_tree.proofs.Move.{kept-renamed, kept-exchanged}
-use Rattle.theorems.specs.Calls.{Call, create-ruleset, close-ruleset, add-path-rule, add-port-rule, restrict, layer-rules, clone, set-no-new-privs, set-admin, access, port, create, remove, link, rename, exchange, outcomeOf, after, afterAll}
+use Rattle.theorems.specs.Calls.{Call, create-ruleset, close-ruleset, add-path-rule, add-port-rule, restrict, layer-rules, clone, end-thread, set-no-new-privs, set-admin, access, port, create, remove, link, rename, exchange, outcomeOf, after, afterAll}
 
 pub kept : (T : Tables) (c : Call) → sound T ≡ true → sound (after T c) ≡ true
 unfolding outcomeOf layerRead accessCall portCall
@@ -30,6 +31,7 @@ kept T (add-port-rule r p rights flags) h = kept-port-added T r p rights flags h
 kept T (restrict t r flags) h = kept-restricted T t r flags h
 kept T (layer-rules l) h = kept-call T _ _ (λ z. h) h
 kept T (clone t) h = kept-cloned T t h
+kept T (end-thread t) h = kept-ended T t h
 kept T (set-no-new-privs t) h = kept-privs-set T t h
 kept T (set-admin t on) h = kept-admin-set T t on h
 kept T (access t e m) h = kept-call T _ _ (λ z. h) h

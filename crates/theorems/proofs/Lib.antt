@@ -12,3 +12,4 @@ pub mod Denied
 pub mod Assembly
 pub mod Demand3
 pub mod Granted
+pub mod Ended

@@ -1,13 +1,12 @@
--- What no call takes back: a layer in use stays as it is, a live thread stays live, its domain only grows, and a refusal changes nothing. Assumes nothing.
-use mathlib.Core.Path.{_≡_, refl, ap, _∙_}
-use mathlib.Core.Bool.{true, not}
+-- What no call that does not end it takes from a live thread: it stays live, the layers of its domain stay as they are, its domain only grows; and a refusal changes nothing. Assumes nothing.
+use mathlib.Core.Path.{_≡_, refl, sym, ap, subst, _∙_}
+use mathlib.Core.Bool.{true, false, not, _&&_}
 use mathlib.Core.List.{List, [], _∷_}
-use Prim.Native.Nat.{ℕ, pred, _+_, _*_, _≤_, _<_}
+use Prim.Native.Nat.{ℕ, suc, pred, _+_, _*_, _≤_, _<_}
 use native.Mathlib.Numerals.{add-one}
 use native.Mathlib.Omega.{arith}
 use lib.Dec.{eqb, ltb}
-use lib.ListN.{length, getD, set}
-use lib.Seq.{getD-set-same, getD-set-other}
+use lib.ListN.{length, getD}
 use borrow.Author.Tests.{eqb-true, eqb-false, leb-false, ltb-true, not-false}
 use Rattle.laws.specs.Tests.{elem}
 use Rattle.laws.specs.Refusals.{Check, first}
@@ -17,20 +16,22 @@ use Rattle.laws.proofs.Tests.{first-passes}
 use Rattle.laws.proofs.Cells.{cell-put, cell-put-beside}
 use Rattle.laws.proofs.Copies.{copied-before}
 use Rattle.laws.proofs.Refusals.{passed}
-use Rattle.access.specs.Limits.{maxLayers, maxThreads, maxDomain}
+use Rattle.access.specs.Limits.{maxThreads, maxDomain}
 use Rattle.access.specs.declared.errno.Errno.{Errno}
 use Rattle.access.specs.declared.errno.Reply.the-variants.{Done, Refused}
-use Rattle.tables.specs.Tables.{Tables, systemWidth, layerWidth, ruleWidth, threadWidth, level, counter, layersUsed, poolUsed, youngest, noNewPrivs, admin, threadLive}
-use Rattle.tables.specs.Layers.{rulesetAt, rulesetCount, layerFirst, layerCount, layerAt}
-use Rattle.tables.specs.Outcome.{Outcome, answer}
+use Rattle.tables.specs.Tables.{Tables, layerWidth, ruleWidth, threadWidth, level, poolUsed, youngest, noNewPrivs, admin, threadLive}
+use Rattle.tables.specs.Layers.{rulesetAt, layerParent, layerFirst, layerCount, layerAt, layerInUse}
+use Rattle.tables.specs.Outcome.{Outcome, outcome, answer}
 use Rattle.judge.specs.Domain.{chain, domain}
 use Rattle.sound.specs.Sound.{sound}
 use Rattle.sound.specs.Call.{call}
 use Rattle.sound.proofs.Facts.{Sound, facts}
+use Rattle.sound.proofs.Calls.{call-done}
+use Rattle.sound_domains.proofs.Hierarchy.{no-thread}
 use Rattle.ruleset.specs.Create.{createDone, created, closeDone, closed}
 use Rattle.rule.specs.Rule.{addDone, pathAdded, portAdded}
-use Rattle.domain_restrict.specs.Restrict.{restrictForm, isDeep, restrictRoom, restrictChecks, counted, restricted, restrictDone, restrictCall}
-use Rattle.domain.specs.Threads.{freeThread, cloneChecks, copiedThread, cloneDone, cloned, markDone, privsSet, adminSet}
+use Rattle.domain_restrict.specs.Restrict.{restrictForm, isDeep, restrictRoom, restrictChecks, freeLayer, restricted, restrictDone, restrictCall}
+use Rattle.domain.specs.Threads.{freeThread, cloneChecks, copiedThread, heldMore, cloneDone, cloned, markDone, privsSet, adminSet}
 use Rattle.domain.specs.Layer.{layerRead}
 use Rattle.domain_restrict.proofs.Room.{roomy}
 use Rattle.fs_access.specs.Access.{accessCall}
@@ -39,26 +40,31 @@ use Rattle.tree.specs.Create.{treeCreated, treeCreate, treeRemove}
 use Rattle.tree.specs.Link.{treeLink}
 use Rattle.tree.specs.Rename.{treeRename}
 use Rattle.tree.specs.Exchange.{treeExchange}
-use Rattle.kept_domains.proofs.Rows.{has-row, SameRow, row-beside, part-moved}
+use Rattle.domain_end.specs.End.{endChecks, ended, endDone, endCall}
+use Rattle.kept_domains.proofs.Rows.{SameRow, row-beside, part-moved}
+use Rattle.kept_domains.proofs.Counts.{layer-recounted}
+use Rattle.kept_domains.proofs.Marks.{more-same}
+use Rattle.kept_domains.proofs.Chains.{chain-around, chain-agree}
 use Rattle.kept_domains.proofs.Threads.{live-below}
 use Rattle.kept_domains.proofs.Layers.{newLayers, newPool, new-other, new-parent, pool-length}
-use Rattle.kept_domains.proofs.Restrict.{Allowed}
-use Rattle.theorems.specs.Calls.{Call, create-ruleset, close-ruleset, add-path-rule, add-port-rule, restrict, layer-rules, clone, set-no-new-privs, set-admin, access, port, create, remove, link, rename, exchange, outcomeOf, after, reply, afterAll}
-use Rattle.theorems.specs.Claim.{domainOf, Grown}
-use Rattle.theorems.proofs.Chains.{chain-less, chain-below, chain-same}
+use Rattle.kept_domains.proofs.Restrict.{Allowed, record-free, unheld, unnamed, has, same-parent}
+use Rattle.kept_end.proofs.Put.{domain-in-use}
+use Rattle.kept_end.proofs.End.{ended-lives, ended-domain, ended-layer, end-live}
+use Rattle.theorems.specs.Calls.{Call, create-ruleset, close-ruleset, add-path-rule, add-port-rule, restrict, layer-rules, clone, end-thread, set-no-new-privs, set-admin, access, port, create, remove, link, rename, exchange, outcomeOf, after, reply, afterAll, isDone, wouldEnd, ends}
+use Rattle.theorems.specs.Claim.{domainOf, Grown, Lives}
+use Rattle.theorems.proofs.Chains.{chain-less}
 
--- what tables T′ keep of T
-pub record Stays (T T′ : Tables) : Type 0 where
-  pub used : layersUsed (T .system) ≤ layersUsed (T′ .system)
-  pub layers : (l : ℕ) → l < layersUsed (T .system) → layerAt (T′ .layers) (T′ .pool) l ≡ layerAt (T .layers) (T .pool) l
-  pub lives : (t : ℕ) → threadLive (T .threads) t ≡ true → threadLive (T′ .threads) t ≡ true
-  pub grown : (t : ℕ) → threadLive (T .threads) t ≡ true → Grown (domainOf T t) (domainOf T′ t)
+-- what tables T′ keep of T for a thread t that is live in T
+pub record Stays (T T′ : Tables) (t : ℕ) : Type 0 where
+  pub layers : (l : ℕ) → elem l (domainOf T t) ≡ true → layerAt (T′ .layers) (T′ .pool) l ≡ layerAt (T .layers) (T .pool) l
+  pub lives : threadLive (T′ .threads) t ≡ true
+  pub grown : Grown (domainOf T t) (domainOf T′ t)
 
 -- ---- any call: it is refused and changes nothing, or what it does keeps
 module _ (T : Tables) (cs : List Check) (done : Outcome) where
-  call-stays : Stays T T → (sound T ≡ true → first cs ≡ 0 → Stays T (done .left)) → Stays T (call T cs done .left)
+  call-stays : (v : ℕ) → Stays T T v → (sound T ≡ true → first cs ≡ 0 → Stays T (done .left) v) → Stays T (call T cs done .left) v
   unfolding call answer first
-  call-stays s f = split (sound T)
+  call-stays v s f = split (sound T)
       (λ h. split (eqb (first cs) 0) (λ q. rw (h, q) (f h (eqb-true (first cs) 0 q))) (λ q. rw (h, q) s))
       (λ h. rw h s)
 
@@ -70,27 +76,25 @@ module _ (T : Tables) (cs : List Check) (done : Outcome) where
       (λ q. rw (h, q) refl))
       (λ h. rw h refl)
 
--- ---- layers, pool and threads alone
-module _ (T T′ : Tables)
-    (u : layersUsed (T′ .system) ≡ layersUsed (T .system))
-    (a : T′ .layers ≡ T .layers)
-    (b : T′ .pool ≡ T .pool)
-    (lives : (t : ℕ) → threadLive (T .threads) t ≡ true → threadLive (T′ .threads) t ≡ true)
-    (same : (t : ℕ) → threadLive (T .threads) t ≡ true → youngest (T′ .threads) t ≡ youngest (T .threads) t) where
-  stays-threads : Stays T T′
+-- ---- parents, masks, rules and the thread's layer stand
+module _ (T T′ : Tables) (t : ℕ)
+    (a : (l : ℕ) → layerParent (T′ .layers) l ≡ layerParent (T .layers) l)
+    (b : (l : ℕ) → layerAt (T′ .layers) (T′ .pool) l ≡ layerAt (T .layers) (T .pool) l)
+    (lives : threadLive (T′ .threads) t ≡ true)
+    (same : youngest (T′ .threads) t ≡ youngest (T .threads) t) where
+  stays-threads : Stays T T′ t
   unfolding Grown domain
   stays-threads = record {
-    used = omega arith;
-    layers = λ l h. rw (a, b) refl;
+    layers = λ l h. b l;
     lives = lives;
-    grown = λ t v l m. rw (a, same t v) m;
+    grown = λ l m. rw (same, chain-agree (T .layers) (T′ .layers) a maxDomain (youngest (T .threads) t)) m;
   }
 
-stays-alone : (T T′ : Tables) → layersUsed (T′ .system) ≡ layersUsed (T .system) → T′ .layers ≡ T .layers → T′ .pool ≡ T .pool → T′ .threads ≡ T .threads → Stays T T′
-stays-alone T T′ u a b c = stays-threads T T′ u a b (λ t v. rw c v) (λ t v. rw c refl)
+stays-alone : (T T′ : Tables) (t : ℕ) → threadLive (T .threads) t ≡ true → T′ .layers ≡ T .layers → T′ .pool ≡ T .pool → T′ .threads ≡ T .threads → Stays T T′ t
+stays-alone T T′ t v a b c = stays-threads T T′ t (λ l. rw a refl) (λ l. rw (a, b) refl) (rw c v) (rw c refl)
 
-stays-self : (T : Tables) → Stays T T
-stays-self T = stays-alone T T refl refl refl refl
+stays-self : (T : Tables) (t : ℕ) → threadLive (T .threads) t ≡ true → Stays T T t
+stays-self T t v = stays-alone T T t v refl refl refl
 
 -- ---- restrict
 allowed : (T : Tables) (t r flags : ℕ) → first (restrictChecks T t r flags) ≡ 0 → Allowed T t r
@@ -106,11 +110,6 @@ allowed T t r flags z =
       room = q .0;
       space = q .1;
     }
-
-counted-layers : (sys : List ℕ) (n : ℕ) → length sys ≡ systemWidth → layersUsed (counted sys n) ≡ layersUsed sys + 1
-unfolding counted
-counted-layers sys n w =
-    getD-set-other (set sys 2 (layersUsed sys + 1)) 3 2 (poolUsed sys + n) 0 (λ e. omega arith) ∙ getD-set-same sys 2 (layersUsed sys + 1) 0 (omega arith)
 
 layer-same : (ls ls′ ps ps′ : List ℕ) (l taken : ℕ) → SameRow ls ls′ layerWidth l → length ps′ ≡ length ps → ruleWidth * taken ≤ length ps
     → ((n : ℕ) → n < ruleWidth * taken → getD ps′ n 0 ≡ getD ps n 0)
@@ -137,7 +136,7 @@ module _ (T : Tables) (t r : ℕ) (S : Sound T) (A : Allowed T t r) where
   ts = T .threads
 
   abbrev used : ℕ
-  used = layersUsed (T .system)
+  used = freeLayer ls
 
   abbrev taken : ℕ
   taken = poolUsed (T .system)
@@ -151,18 +150,18 @@ module _ (T : Tables) (t r : ℕ) (S : Sound T) (A : Allowed T t r) where
   abbrev ts′ : List ℕ
   ts′ = putCell ts threadWidth t 1 (used + 1)
 
-  in-use : (u : ℕ) → threadLive ts u ≡ true → youngest ts u ≤ used
-  in-use u v = S .threads .live u (live-below ts u (S .lengths .threads) v) v .in-use
+  not-used : (u : ℕ) → threadLive ts u ≡ true → youngest ts u ≡ suc used → ⊥
+  not-used u v = no-thread ls ts used (unheld T t r S A) u (live-below ts u (S .lengths .threads) v)
 
-  chains : (n z : ℕ) → z ≤ used → chain ls′ n z ≡ chain ls n z
-  chains = chain-same ls used (λ l h. S .layers .each l h .parent-smaller) ls′ (λ l h. new-other ls rs used taken r y l (λ e. omega arith) 0 (omega arith))
+  chains : (n z : ℕ) → (z ≡ suc used → ⊥) → chain ls′ n z ≡ chain ls n z
+  chains = chain-around ls used (unnamed T t r S A) ls′ (same-parent T t r S A)
 
   -- the new layer, then the old chain
   chain-new : chain ls′ maxDomain (used + 1) ≡ used ∷ domain ls ts t
   unfolding chain domain
   chain-new =
-      rw (add-one used, new-parent ls rs used taken r y (has-row ls layerWidth maxLayers used (S .lengths .layers) (A .room)))
-      (ap (λ (xs : List ℕ). used ∷ xs) (chains (pred maxDomain) y (in-use t (A .live)) ∙ chain-less ls (pred maxDomain) y (A .short)))
+      rw (add-one used, new-parent ls rs used taken r y (has T t r S A))
+      (ap (λ (xs : List ℕ). used ∷ xs) (chains (pred maxDomain) y (not-used t (A .live)) ∙ chain-less ls (pred maxDomain) y (A .short)))
 
   domain-new : domain ls′ ts′ t ≡ used ∷ domain ls ts t
   unfolding domain
@@ -172,7 +171,7 @@ module _ (T : Tables) (t r : ℕ) (S : Sound T) (A : Allowed T t r) where
 
   domain-old : (u : ℕ) → (u ≡ t → ⊥) → threadLive ts u ≡ true → domain ls′ ts′ u ≡ domain ls ts u
   unfolding domain
-  domain-old u d v = rw (row-beside ts threadWidth t 1 (used + 1) u (omega arith) d 1 (omega arith)) (chains maxDomain (youngest ts u) (in-use u v))
+  domain-old u d v = rw (row-beside ts threadWidth t 1 (used + 1) u (omega arith) d 1 (omega arith)) (chains maxDomain (youngest ts u) (not-used u v))
 
   grown-here : (u l : ℕ) → threadLive ts u ≡ true → elem l (domain ls ts u) ≡ true → elem l (domain ls′ ts′ u) ≡ true
   unfolding elem
@@ -186,17 +185,18 @@ module _ (T : Tables) (t r : ℕ) (S : Sound T) (A : Allowed T t r) where
       (λ q. let e = eqb-true u t q in rw (e, cell-put-beside ts threadWidth t 1 (used + 1) 0 (λ z. omega arith)) (rw e at v))
       (λ q. rw (row-beside ts threadWidth t 1 (used + 1) u (omega arith) (eqb-false u t q) 0 (omega arith)) v)
 
-  restrict-stays : Stays T (restricted T t r)
+  restrict-stays : (u : ℕ) → threadLive ts u ≡ true → Stays T (restricted T t r) u
   unfolding restricted Grown
-  restrict-stays = record {
-    used = let c = counted-layers (T .system) (rulesetCount rs r) (S .lengths .system) in omega arith;
-    layers = λ l h.
+  restrict-stays u v = record {
+    layers = λ l m.
+        let i = domain-in-use T 0 S u (live-below ts u (S .lengths .threads) v) l m in
+        let d : (l ≡ used → ⊥) = λ e. clash (layerInUse ls used) (rw e at (i .1)) (record-free T t r S A) in
         let fits : ruleWidth * taken ≤ length (T .pool) = (let p = S .lengths .pool in let q = A .space in omega arith) in
-        layer-same ls ls′ (T .pool) (newPool (T .pool) rs taken r) l taken (new-other ls rs used taken r y l (λ e. omega arith)) (pool-length (T .pool) rs taken r) fits
+        layer-same ls ls′ (T .pool) (newPool (T .pool) rs taken r) l taken (new-other ls rs used taken r y l d) (pool-length (T .pool) rs taken r) fits
         (copied-before (T .pool) (ruleWidth * taken) (rulesetAt rs r .rules) (length (rulesetAt rs r .rules)))
-        (S .layers .each l h .in-pool);
-    lives = state-same;
-    grown = λ u v l m. grown-here u l v m;
+        (S .layers .each l (i .0) (i .1) .in-pool);
+    lives = state-same u v;
+    grown = λ l m. grown-here u l v m;
   }
 
 -- ---- clone: a row that was free
@@ -218,14 +218,16 @@ free-thread ts u h v e =
     let p = first-passes (λ t. not (threadLive ts t)) maxThreads (ltb-true (freeThread ts) maxThreads h) in
     clash (not (threadLive ts (freeThread ts))) p (not-of-true (threadLive ts (freeThread ts)) (rw e at v))
 
-clone-stays : (T : Tables) (t : ℕ) → first (cloneChecks T t) ≡ 0 → Stays T (cloneDone T t .left)
+clone-stays : (T : Tables) (t u : ℕ) → first (cloneChecks T t) ≡ 0 → threadLive (T .threads) u ≡ true → Stays T (cloneDone T t .left) u
 unfolding cloneChecks cloneDone threadLive
-clone-stays T t z =
+clone-stays T t u z v =
+    let ls = T .layers in
     let ts = T .threads in
     let h = not-false (ltb (freeThread ts) maxThreads) (passed (cloneChecks T t) z .1 .0) in
-    stays-threads T (cloneDone T t .left) refl refl refl
-    (λ u v. rw (copy-other ts (freeThread ts) t u (free-thread ts u h v) 0 (omega arith)) v)
-    (λ u v. copy-other ts (freeThread ts) t u (free-thread ts u h v) 1 (omega arith))
+    let same : (m k : ℕ) → k < 6 → cell (heldMore ls (youngest ts t)) layerWidth m k ≡ cell ls layerWidth m k = more-same ls (youngest ts t) in
+    stays-threads T (cloneDone T t .left) u (λ l. same l 0 (omega arith)) (layer-recounted ls (heldMore ls (youngest ts t)) (T .pool) same)
+    (rw (copy-other ts (freeThread ts) t u (free-thread ts u h v) 0 (omega arith)) v)
+    (copy-other ts (freeThread ts) t u (free-thread ts u h v) 1 (omega arith))
 
 -- ---- marks: cell 2 or 3
 beside : (ts : List ℕ) (t k v : ℕ) → 2 ≤ k → k < threadWidth → (u j : ℕ) → j < 2 → cell (putCell ts threadWidth t k v) threadWidth u j ≡ cell ts threadWidth u j
@@ -233,40 +235,50 @@ beside ts t k v a b u j c = split (eqb u t)
     (λ q. rw (eqb-true u t q) (cell-put-beside ts threadWidth t k v j (λ e. omega arith)))
     (λ q. row-beside ts threadWidth t k v u b (eqb-false u t q) j (omega arith))
 
-mark-stays : (T : Tables) (t k v : ℕ) → 2 ≤ k → k < threadWidth → Stays T (markDone T t k v .left)
+mark-stays : (T : Tables) (t k v u : ℕ) → threadLive (T .threads) u ≡ true → 2 ≤ k → k < threadWidth → Stays T (markDone T t k v .left) u
 unfolding markDone threadLive
-mark-stays T t k v a b = stays-threads T (markDone T t k v .left) refl refl refl
-    (λ u w. rw (beside (T .threads) t k v a b u 0 (omega arith)) w)
-    (λ u w. beside (T .threads) t k v a b u 1 (omega arith))
+mark-stays T t k v u w a b = stays-threads T (markDone T t k v .left) u (λ l. refl) (λ l. refl)
+    (rw (beside (T .threads) t k v a b u 0 (omega arith)) w)
+    (beside (T .threads) t k v a b u 1 (omega arith))
 
--- ---- create: the next object number
-create-stays : (T : Tables) (d k : ℕ) → Stays T (treeCreated T d k)
-unfolding treeCreated
-create-stays T d k = stays-alone T (treeCreated T d k) (getD-set-other (T .system) 1 2 (counter (T .system) + 1) 0 (λ e. omega arith)) refl refl refl
+-- ---- end: of another thread
+end-stays : (T : Tables) (t u : ℕ) → sound T ≡ true → first (endChecks T t) ≡ 0 → threadLive (T .threads) u ≡ true → ends T (end-thread t) u ≡ false → Stays T (endDone T t .left) u
+unfolding ends wouldEnd outcomeOf endCall endDone Grown
+end-stays T t u h z v e =
+    let o = call-done T (endChecks T t) (outcome (Done 0) (ended T t)) (sym h) refl refl z in
+    let d : (u ≡ t → ⊥) = eqb-false u t (subst (λ (x : Outcome). (isDone (x .reply) && eqb u t) ≡ false) (sym o) e) in
+    let S = facts T h in
+    let w = end-live T t z in
+    record {
+      layers = ended-layer T t S w u d v;
+      lives = ended-lives T t S w u d v;
+      grown = λ l m. rw (ended-domain T t S w u d v) m;
+    }
 
 -- ---- every call
-pub stays : (T : Tables) (c : Call) → Stays T (after T c)
-unfolding outcomeOf created createDone closed closeDone pathAdded portAdded addDone restrictCall restrictDone cloned privsSet adminSet layerRead accessCall portCall treeCreate treeRemove treeLink treeRename treeExchange
-stays T (create-ruleset bs flags) = call-stays T _ _ (stays-self T) (λ h z. stays-alone T _ refl refl refl refl)
-stays T (close-ruleset r) = call-stays T _ _ (stays-self T) (λ h z. stays-alone T _ refl refl refl refl)
-stays T (add-path-rule r e rights flags) = call-stays T _ _ (stays-self T) (λ h z. stays-alone T _ refl refl refl refl)
-stays T (add-port-rule r p rights flags) = call-stays T _ _ (stays-self T) (λ h z. stays-alone T _ refl refl refl refl)
-stays T (restrict t r flags) = call-stays T (restrictChecks T t r flags) _ (stays-self T) (λ h z. restrict-stays T t r (facts T h) (allowed T t r flags z))
-stays T (layer-rules l) = call-stays T _ _ (stays-self T) (λ h z. stays-self T)
-stays T (clone t) = call-stays T (cloneChecks T t) _ (stays-self T) (λ h z. clone-stays T t z)
-stays T (set-no-new-privs t) = call-stays T _ _ (stays-self T) (λ h z. mark-stays T t 2 1 (omega arith) (omega arith))
-stays T (set-admin t on) = call-stays T _ _ (stays-self T) (λ h z. mark-stays T t 3 _ (omega arith) (omega arith))
-stays T (access t e m) = call-stays T _ _ (stays-self T) (λ h z. stays-self T)
-stays T (port t p m) = call-stays T _ _ (stays-self T) (λ h z. stays-self T)
-stays T (create t d k) = call-stays T _ _ (stays-self T) (λ h z. create-stays T d k)
-stays T (remove t e) = call-stays T _ _ (stays-self T) (λ h z. stays-alone T _ refl refl refl refl)
-stays T (link t s d) = call-stays T _ _ (stays-self T) (λ h z. stays-alone T _ refl refl refl refl)
-stays T (rename t s d x) = call-stays T _ _ (stays-self T) (λ h z. stays-alone T _ refl refl refl refl)
-stays T (exchange t s d x) = call-stays T _ _ (stays-self T) (λ h z. stays-alone T _ refl refl refl refl)
+pub stays : (T : Tables) (c : Call) (v : ℕ) → threadLive (T .threads) v ≡ true → ends T c v ≡ false → Stays T (after T c) v
+unfolding outcomeOf created createDone closed closeDone pathAdded portAdded addDone restrictCall restrictDone cloned endCall privsSet adminSet layerRead accessCall portCall treeCreate treeCreated treeRemove treeLink treeRename treeExchange
+stays T (create-ruleset bs flags) v w keeps = call-stays T _ _ v (stays-self T v w) (λ h z. stays-alone T _ v w refl refl refl)
+stays T (close-ruleset r) v w keeps = call-stays T _ _ v (stays-self T v w) (λ h z. stays-alone T _ v w refl refl refl)
+stays T (add-path-rule r e rights flags) v w keeps = call-stays T _ _ v (stays-self T v w) (λ h z. stays-alone T _ v w refl refl refl)
+stays T (add-port-rule r p rights flags) v w keeps = call-stays T _ _ v (stays-self T v w) (λ h z. stays-alone T _ v w refl refl refl)
+stays T (restrict t r flags) v w keeps = call-stays T (restrictChecks T t r flags) _ v (stays-self T v w) (λ h z. restrict-stays T t r (facts T h) (allowed T t r flags z) v w)
+stays T (layer-rules l) v w keeps = call-stays T _ _ v (stays-self T v w) (λ h z. stays-self T v w)
+stays T (clone t) v w keeps = call-stays T (cloneChecks T t) _ v (stays-self T v w) (λ h z. clone-stays T t v z w)
+stays T (end-thread t) v w keeps = call-stays T (endChecks T t) _ v (stays-self T v w) (λ h z. end-stays T t v h z w keeps)
+stays T (set-no-new-privs t) v w keeps = call-stays T _ _ v (stays-self T v w) (λ h z. mark-stays T t 2 1 v w (omega arith) (omega arith))
+stays T (set-admin t on) v w keeps = call-stays T _ _ v (stays-self T v w) (λ h z. mark-stays T t 3 _ v w (omega arith) (omega arith))
+stays T (access t e m) v w keeps = call-stays T _ _ v (stays-self T v w) (λ h z. stays-self T v w)
+stays T (port t p m) v w keeps = call-stays T _ _ v (stays-self T v w) (λ h z. stays-self T v w)
+stays T (create t d k) v w keeps = call-stays T _ _ v (stays-self T v w) (λ h z. stays-alone T _ v w refl refl refl)
+stays T (remove t e) v w keeps = call-stays T _ _ v (stays-self T v w) (λ h z. stays-alone T _ v w refl refl refl)
+stays T (link t s d) v w keeps = call-stays T _ _ v (stays-self T v w) (λ h z. stays-alone T _ v w refl refl refl)
+stays T (rename t s d x) v w keeps = call-stays T _ _ v (stays-self T v w) (λ h z. stays-alone T _ v w refl refl refl)
+stays T (exchange t s d x) v w keeps = call-stays T _ _ v (stays-self T v w) (λ h z. stays-alone T _ v w refl refl refl)
 
 -- a refusal "changes no cell"
 pub refused-same : (T : Tables) (c : Call) (e : Errno) → reply T c ≡ Refused e → after T c ≡ T
-unfolding outcomeOf created createDone closed closeDone pathAdded portAdded addDone restrictCall restrictDone cloned cloneDone privsSet adminSet markDone layerRead accessCall portCall treeCreate treeRemove treeLink treeRename treeExchange
+unfolding outcomeOf created createDone closed closeDone pathAdded portAdded addDone restrictCall restrictDone cloned cloneDone endCall endDone privsSet adminSet markDone layerRead accessCall portCall treeCreate treeRemove treeLink treeRename treeExchange
 refused-same T (create-ruleset bs flags) e h = call-same T _ _ _ e refl h
 refused-same T (close-ruleset r) e h = call-same T _ _ _ e refl h
 refused-same T (add-path-rule r x rights flags) e h = call-same T _ _ _ e refl h
@@ -274,6 +286,7 @@ refused-same T (add-port-rule r p rights flags) e h = call-same T _ _ _ e refl h
 refused-same T (restrict t r flags) e h = call-same T _ _ _ e refl h
 refused-same T (layer-rules l) e h = call-same T _ _ _ e refl h
 refused-same T (clone t) e h = call-same T _ _ _ e refl h
+refused-same T (end-thread t) e h = call-same T _ _ _ e refl h
 refused-same T (set-no-new-privs t) e h = call-same T _ _ _ e refl h
 refused-same T (set-admin t on) e h = call-same T _ _ _ e refl h
 refused-same T (access t x m) e h = call-same T _ _ _ e refl h
@@ -284,25 +297,29 @@ refused-same T (link t s d) e h = call-same T _ _ _ e refl h
 refused-same T (rename t s d x) e h = call-same T _ _ _ e refl h
 refused-same T (exchange t s d x) e h = call-same T _ _ _ e refl h
 
--- a live thread's layers are in use
-pub domain-used : (T : Tables) (t l : ℕ) → sound T ≡ true → threadLive (T .threads) t ≡ true → elem l (domainOf T t) ≡ true → l < layersUsed (T .system)
-unfolding domain
-domain-used T t l h v m =
-    let S = facts T h in
-    chain-below (T .layers) (layersUsed (T .system)) (λ l h. S .layers .each l h .parent-smaller) maxDomain (youngest (T .threads) t) l
-    (S .threads .live t (live-below (T .threads) t (S .lengths .threads) v) v .in-use) m
+-- ---- the same, one fact each
+module _ (T : Tables) (c : Call) (t : ℕ) (v : threadLive (T .threads) t ≡ true) (e : ends T c t ≡ false) where
+  pub layers-kept : (l : ℕ) → elem l (domainOf T t) ≡ true → layerAt ((after T c) .layers) ((after T c) .pool) l ≡ layerAt (T .layers) (T .pool) l
+  layers-kept = stays T c t v e .layers
+
+  pub thread-lives : threadLive ((after T c) .threads) t ≡ true
+  thread-lives = stays T c t v e .lives
+
+  pub domain-grows : Grown (domainOf T t) (domainOf (after T c) t)
+  domain-grows = stays T c t v e .grown
 
 -- ---- a list of calls
-stays-on : (T T1 T2 : Tables) → Stays T T1 → Stays T1 T2 → Stays T T2
+stays-on : (T T1 T2 : Tables) (t : ℕ) → Stays T T1 t → Stays T1 T2 t → Stays T T2 t
 unfolding Grown
-stays-on T T1 T2 p q = record {
-  used = let a = p .used in let b = q .used in omega arith;
-  layers = λ l h. q .layers l (let a = p .used in omega arith) ∙ p .layers l h;
-  lives = λ t v. q .lives t (p .lives t v);
-  grown = λ t v l m. q .grown t (p .lives t v) l (p .grown t v l m);
+stays-on T T1 T2 t p q = record {
+  layers = λ l m. q .layers l (p .grown l m) ∙ p .layers l m;
+  lives = q .lives;
+  grown = λ l m. q .grown l (p .grown l m);
 }
 
-pub all-stays : (cs : List Call) (T : Tables) → Stays T (afterAll T cs)
-unfolding afterAll
-all-stays [] T = stays-self T
-all-stays (c ∷ cs) T = stays-on T (after T c) (afterAll (after T c) cs) (stays T c) (all-stays cs (after T c))
+pub all-stays : (cs : List Call) (T : Tables) (t : ℕ) → threadLive (T .threads) t ≡ true → Lives T cs t → Stays T (afterAll T cs) t
+unfolding afterAll Lives
+all-stays [] T t v k = stays-self T t v
+all-stays (c ∷ cs) T t v k =
+    let S = stays T c t v (k .0) in
+    stays-on T (after T c) (afterAll (after T c) cs) t S (all-stays cs (after T c) t (S .lives) (k .1))

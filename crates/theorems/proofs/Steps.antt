@@ -29,6 +29,8 @@ use Rattle.rule.specs.Rule.{pathAdded, portAdded, addDone}
 use Rattle.domain_restrict.specs.Restrict.{restrictCall, restrictDone, restricted}
 use Rattle.domain.specs.Layer.{layerRead}
 use Rattle.domain.specs.Threads.{cloned, cloneDone, privsSet, adminSet, markDone}
+use Rattle.domain_end.specs.End.{endDone, endCall}
+use Rattle.kept_end.proofs.End.{ended-entries}
 use Rattle.tree.specs.declared.Replaced.{Replaced}
 use Rattle.tree.specs.declared.Replaced.the-variants.{None, Entry}
 use Rattle.tree.specs.Entries.{freeEntry, replacing, sameObject, putEntry, putParent, freeRow}
@@ -37,7 +39,7 @@ use Rattle.tree.specs.Create.{createShape, createVerdict, createLater, treeCrea
 use Rattle.tree.specs.Link.{linkShape, linkVerdict, linkLater, linkChecks, linked, treeLink}
 use Rattle.tree.specs.Rename.{renameNames, renameShape, renameVerdict, renameLater, renameChecks, dropped, moved, treeRename}
 use Rattle.tree.specs.Exchange.{exchangeNames, exchangeShape, exchangeVerdict, exchangeChecks, swapped, treeExchange}
-use Rattle.theorems.specs.Calls.{Call, create-ruleset, close-ruleset, add-path-rule, add-port-rule, restrict, layer-rules, clone, set-no-new-privs, set-admin, access, port, create, remove, link, rename, exchange, outcomeOf, after, caller, isDone, wouldFree, frees}
+use Rattle.theorems.specs.Calls.{Call, create-ruleset, close-ruleset, add-path-rule, add-port-rule, restrict, layer-rules, clone, end-thread, set-no-new-privs, set-admin, access, port, create, remove, link, rename, exchange, outcomeOf, after, caller, isDone, wouldFree, frees}
 use Rattle.theorems.specs.Claim.{domainOf}
 use Rattle.theorems.proofs.Shut.{gives, Shut, shut-up, dir-live, Frame, Above}
 use Rattle.kept_tree.proofs.Clear.{Childless, childless}
@@ -193,7 +195,7 @@ module _ (T : Tables) (s : sound T ≡ true) where
       none false = refl
 
   pub step : (c : Call) → Step T (caller c) ((after T c) .entries) (frees T c)
-  unfolding outcomeOf caller wouldFree frees created closed createDone closeDone pathAdded portAdded addDone restrictCall restrictDone restricted cloned cloneDone privsSet adminSet markDone layerRead accessCall portCall
+  unfolding outcomeOf caller wouldFree frees created closed createDone closeDone pathAdded portAdded addDone restrictCall restrictDone restricted cloned cloneDone endCall endDone privsSet adminSet markDone layerRead accessCall portCall
   step (create-ruleset bs flags) = other-step 0 _ _ refl
   step (close-ruleset r) = other-step 0 _ _ refl
   step (add-path-rule r e rights flags) = other-step 0 _ _ refl
@@ -201,6 +203,7 @@ module _ (T : Tables) (s : sound T ≡ true) where
   step (restrict t r flags) = other-step t _ _ refl
   step (layer-rules l) = other-step 0 _ _ refl
   step (clone t) = other-step t _ _ refl
+  step (end-thread t) = other-step t _ _ (ended-entries T t)
   step (set-no-new-privs t) = other-step t _ _ refl
   step (set-admin t on) = other-step t _ _ refl
   step (access t e m) = other-step t _ _ refl

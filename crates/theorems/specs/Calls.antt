@@ -12,6 +12,7 @@ use Rattle.rule.specs.Rule.{pathAdded, portAdded}
 use Rattle.domain_restrict.specs.Restrict.{restrictCall}
 use Rattle.domain.specs.Threads.{cloned, privsSet, adminSet}
 use Rattle.domain.specs.Layer.{layerRead}
+use Rattle.domain_end.specs.End.{endCall}
 use Rattle.fs_access.specs.Access.{accessCall}
 use Rattle.net.specs.Port.{portCall}
 use Rattle.tree.specs.declared.Replaced.{Replaced}
@@ -34,6 +35,8 @@ pub data Call : Type 0 where
   restrict : ℕ → ℕ → ℕ → Call
   layer-rules : ℕ → Call
   clone : ℕ → Call
+  -- thread
+  end-thread : ℕ → Call
   set-no-new-privs : ℕ → Call
   -- thread, on or off
   set-admin : ℕ → ℕ → Call
@@ -61,6 +64,7 @@ outcomeOf T (add-port-rule r p rights flags) = portAdded T r p rights flags
 outcomeOf T (restrict t r flags) = restrictCall T t r flags
 outcomeOf T (layer-rules l) = layerRead T l
 outcomeOf T (clone t) = cloned T t
+outcomeOf T (end-thread t) = endCall T t
 outcomeOf T (set-no-new-privs t) = privsSet T t
 outcomeOf T (set-admin t on) = adminSet T t on
 outcomeOf T (access t e m) = accessCall T t e m
@@ -91,6 +95,7 @@ caller (add-port-rule r p rights flags) = 0
 caller (restrict t r flags) = t
 caller (layer-rules l) = 0
 caller (clone t) = t
+caller (end-thread t) = t
 caller (set-no-new-privs t) = t
 caller (set-admin t on) = t
 caller (access t e m) = t
@@ -115,6 +120,7 @@ wouldFree T (add-port-rule r p rights flags) e = false
 wouldFree T (restrict t r flags) e = false
 wouldFree T (layer-rules l) e = false
 wouldFree T (clone t) e = false
+wouldFree T (end-thread t) e = false
 wouldFree T (set-no-new-privs t) e = false
 wouldFree T (set-admin t on) e = false
 wouldFree T (access t x m) e = false
@@ -127,3 +133,26 @@ wouldFree T (exchange t s d x) e = false
 
 unfoldable pub frees : Tables → Call → ℕ → Bool
 frees T c e = isDone (reply T c) && wouldFree T c e
+
+-- the thread that a call ends if it is not refused
+unfoldable pub wouldEnd : Call → ℕ → Bool
+wouldEnd (create-ruleset bs flags) t = false
+wouldEnd (close-ruleset r) t = false
+wouldEnd (add-path-rule r x rights flags) t = false
+wouldEnd (add-port-rule r p rights flags) t = false
+wouldEnd (restrict u r flags) t = false
+wouldEnd (layer-rules l) t = false
+wouldEnd (clone u) t = false
+wouldEnd (end-thread u) t = eqb t u
+wouldEnd (set-no-new-privs u) t = false
+wouldEnd (set-admin u on) t = false
+wouldEnd (access u x m) t = false
+wouldEnd (port u p m) t = false
+wouldEnd (create u d k) t = false
+wouldEnd (remove u x) t = false
+wouldEnd (link u s d) t = false
+wouldEnd (rename u s d x) t = false
+wouldEnd (exchange u s d x) t = false
+
+unfoldable pub ends : Tables → Call → ℕ → Bool
+ends T c t = isDone (reply T c) && wouldEnd c t

@@ -13,7 +13,7 @@ use Rattle.judge.specs.Judge.{denied}
 use Rattle.judge.specs.Domain.{domain}
 use Rattle.fs.specs.Move.{entryRights}
 use Rattle.sound.specs.Sound.{sound}
-use Rattle.theorems.specs.Calls.{Call, link, after, reply, afterAll, caller, frees}
+use Rattle.theorems.specs.Calls.{Call, link, after, reply, afterAll, caller, frees, ends}
 
 -- the domain of a thread
 abbrev pub domainOf : Tables → ℕ → List ℕ
@@ -46,6 +46,11 @@ unfoldable pub Kept : Tables → List Call → ℕ → Type 0
 Kept T [] e = Unit {0}
 Kept T (c ∷ cs) e = (frees T c e ≡ false) × Kept (after T c) cs e
 
+-- document 02, W13, "must live throughout": none of the calls ends t
+unfoldable pub Lives : Tables → List Call → ℕ → Type 0
+Lives T [] t = Unit {0}
+Lives T (c ∷ cs) t = (ends T c t ≡ false) × Lives (after T c) cs t
+
 pub record NotWider (T : Tables) (t : ℕ) (cs : List Call) : Type 0 where
   -- an entry that lived all through holds no right that it did not hold
   pub entries : (e i : ℕ) → live (T .entries) e ≡ true → Kept T cs e
@@ -57,6 +62,6 @@ pub record NotWider (T : Tables) (t : ℕ) (cs : List Call) : Type 0 where
   -- no port is granted a right that it was not granted
   pub ports : (port i : ℕ) → portGrants T (domainOf T t) port i ≡ false → portGrants (afterAll T cs) (domainOf (afterAll T cs) t) port i ≡ false
 
--- any sound tables, any live thread, any calls with any arguments, whichever threads make them
+-- any sound tables, any live thread, any calls with any arguments that do not end it, whichever threads make them
 unfoldable pub Demand3 : Type 0
-Demand3 = (T : Tables) (t : ℕ) (cs : List Call) → sound T ≡ true → threadLive (T .threads) t ≡ true → Within (domainOf T t) T cs → NotWider T t cs
+Demand3 = (T : Tables) (t : ℕ) (cs : List Call) → sound T ≡ true → threadLive (T .threads) t ≡ true → Lives T cs t → Within (domainOf T t) T cs → NotWider T t cs

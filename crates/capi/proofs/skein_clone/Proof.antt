@@ -11,4 +11,5 @@ skein-clone-spec =
     (λ c κs. tt)
     (λ c κs. tt)
     (λ c. search needs)
-    (λ c. answers _ _ (c .before .before .before .clone-thread .ensures) (c .number .ensures)))
+    (λ c. search needs)
+    (λ c. answers _ _ (c .before .before .before .before .before .clone-thread .ensures) (c .number .ensures)))

@@ -1,6 +1,7 @@
 -- Assumes nothing.
 use borrow.Author.Needs.{needs}
 use native.Mathlib.Omega.{arith}
+use Rattle.domain_restrict.proofs.Room.{free-few}
 use Rattle.domain_restrict.proofs.Changes.{restricted-by}
 use Rattle.restrict_apply.proofs.apply_restrict.Statement.{statement}
 use Rattle.restrict_apply.proofs.apply_restrict.Tie as tie
@@ -25,9 +26,9 @@ apply-restrict-spec =
     let pre = read .before .before .before .before .before .before .before .before .before .before .before .before .before .before .pre in
     (pre .0, rw (read .row-read4 .ensures) (pre .1)))
     (λ c.
-    let used = c .before .before .before .before .before .before .before .before .before .before .before .before .before .before .before .before .before .before .before .before .before .before in
-    let e = used .layers-used .ensures in
-    let pre = used .before .before .before .before .before .before .before .before .pre in
+    let free = c .before .before .before .before .before .before .before .before .before .before .before .before .before .before .before .before .before .before .before .before .before .before in
+    let e = free .free-layer .ensures in
+    let few = free-few (free .before .before .before .before .before .before .before .before .args .layers .now) in
     omega arith)
     (λ c κs. tt)
     (λ c. search needs)
@@ -40,5 +41,5 @@ apply-restrict-spec =
     let put = count .before .before .before .before in
     let rules = put .before .before .before .before .before .before .before in
     let read = rules .before .before in
-    restricted-by _ _ _ (read .before .before .before .before .before .before .layers-used .ensures) (read .before .before .before .before .pool-used .ensures) (read .before .before .before .row-read .ensures) (read .before .before .row-read2 .ensures) (read .before .row-read3 .ensures) (read .row-read4 .ensures)
+    restricted-by _ _ _ (read .before .before .before .before .before .before .free-layer .ensures) (read .before .before .before .before .pool-used .ensures) (read .before .before .before .row-read .ensures) (read .before .before .row-read2 .ensures) (read .before .row-read3 .ensures) (read .row-read4 .ensures)
     (rules .ruleset-rules .ensures) (put .before .youngest-of .ensures) (put .before .before .before .before .before .before .copy .ensures) (put .put-layer .ensures) (count .count-layer .ensures) (row .row-write .ensures)))

@@ -16,9 +16,11 @@ put-layer-spec =
     (λ c κs. tt)
     (λ c κs. tt)
     (λ c κs. tt)
+    (λ c κs. tt)
     (λ c. search needs)
     (λ c.
-    let v = c .before .before .before .before .before .before .before in
+    let sixth = c .before .before .before .before .before .before in
+    let v = sixth .before .before .before .before .before in
     let fourth = v .before .before .before .before in
     let third = fourth .before .before .before .before in
     let second = third .before .before .before .before in
@@ -26,4 +28,4 @@ put-layer-spec =
     let a = one .before .before .before .args in
     row-by _ _ _ _ _ _ (a .first) (a .count) (one .row-write .ensures) (second .row-write2 .ensures) (third .row-write3 .ensures) (fourth .row-write4 .ensures)
     (⊎-elim (λ w. chosen-first (a .count) 0 (a .first) (w .0 .taken) (w .1)) (λ w. chosen-second (a .count) 0 (a .first) (w .0 .left) (w .1)) (v .if1 .came))
-    (c .before .before .before .before .before .before .row-write5 .ensures) (c .before .before .row-write6 .ensures)))
+    (sixth .before .before .before .before .row-write5 .ensures) (sixth .row-write6 .ensures) (c .before .before .row-write7 .ensures)))

@@ -6,16 +6,17 @@ use native.Mathlib.Omega.{arith}
 use lib.ListN.{length}
 use Rattle.laws.specs.Tests.{allBelow}
 use Rattle.laws.proofs.Tests.{all-none, all-more, all-done, all-fails}
+use Rattle.access.specs.Limits.{maxLayers}
 use Rattle.sound_layers.specs.Layers.{runSound}
 use Rattle.sound_layers.proofs.Runs.{Marked, marked-none, marked-more, run-clear}
 use Rattle.sound_runs.proofs.runs_sound.Statement.{statement}
 use Rattle.sound_runs.proofs.runs_sound.Tie as tie
 
 abbrev Inv-loop : tie.InvT-loop
-Inv-loop layers used n taken₀ l₀ taken l = (l ≤ n) × (allBelow (runSound layers) l ≡ true) × (length taken ≡ 16) × Marked layers taken l
+Inv-loop layers taken₀ l₀ taken l = (l ≤ maxLayers) × (allBelow (runSound layers) l ≡ true) × (length taken ≡ 16) × Marked layers taken l
 
 abbrev μ-loop : tie.MeasureT-loop
-μ-loop layers used n taken₀ l₀ taken l = n - l
+μ-loop layers taken₀ l₀ taken l = maxLayers - l
 
 holds : tie.Need-loop-holds Inv-loop μ-loop
 holds c = (omega arith, all-none _, refl, marked-none (c .before .args .layers .now) 16)
@@ -25,7 +26,7 @@ told : (c : tie.After-take-run Inv-loop μ-loop) → let d = c .before .before .
 told c =
     let d = c .before .before .before .before .before in
     let s = d .before .before in
-    c .take-run .ensures .answer ∙ run-clear (s .args .layers .now) (d .loop .taken) (d .loop .l) (d .loop .inv .3) (s .args .used) (s .pre .1 .1) (c .before .before .before .before .loop-test .taken)
+    c .take-run .ensures .answer ∙ run-clear (s .args .layers .now) (d .loop .taken) (d .loop .l) (d .loop .inv .3) maxLayers (s .pre .1) (c .before .before .before .before .loop-test .taken)
 
 again : tie.Need-loop-again Inv-loop μ-loop
 again c =
@@ -51,7 +52,7 @@ runs-sound-spec =
     (λ c. omega arith)
     (λ c. omega arith)
     (λ c. sym (c .before .before .before .before .loop .inv .2))
-    (λ c κs. let d = c .before .before .before .before in let p = d .before .before .pre .1 .1 (d .loop .l) (omega arith) in (p .0, omega arith))
+    (λ c κs. let d = c .before .before .before .before in let p = d .before .before .pre .1 (d .loop .l) (omega arith) in (p .0, omega arith))
     (λ c. omega arith)
     (λ c. omega arith)
     again
