@@ -13,7 +13,8 @@ use Rattle.tables.specs.Outcome.{Outcome, outcome, answer}
 use Rattle.sound.specs.Sound.{sound}
 use Rattle.sound.specs.Call.{call}
 use Rattle.domain.specs.Layer.{layerChecks, layerRead, layerCode}
-use Rattle.capi.specs.Codes.{codeOf, number, Answers}
+use Rattle.codes.specs.Codes.{codeOf, number}
+use Rattle.capi.specs.Codes.{Answers}
 
 pub answers : (T : Tables) (o : Outcome) {a : Reply} {r : ℕ} → outcome a T ≡ o → r ≡ number a → Answers r T o
 answers T o h k = (k ∙ ap (λ (x : Outcome). number (x .reply)) h, ap (λ (x : Outcome). x .left) h)

@@ -1,11 +1,12 @@
 // What C and Rust call: every call of the broker, with its arguments as numbers and its reply as one number.
-use access::errno::Reply;
 use access::rights::Rights;
 use cells::row_read;
-use cells::write;
+use codes::code_of;
+use codes::number;
+use codes::replaced_by;
+use codes::report;
 use judge::rules::cells_of;
 use tables::rows::LAYER_WIDTH;
-use tree::Replaced;
 ghost use mathlib.Core.Path.{_≡_};
 ghost use mathlib.Core.Bool.{cond};
 ghost use Prim.Native.Nat.{_*_, min};
@@ -26,35 +27,8 @@ ghost use Rattle.tree.specs.Create.{treeCreate, treeRemove};
 ghost use Rattle.tree.specs.Link.{treeLink};
 ghost use Rattle.tree.specs.Rename.{treeRename};
 ghost use Rattle.tree.specs.Exchange.{treeExchange};
-ghost use Rattle.capi.specs.Codes.{codeOf, number, Answers, replacedBy, spanFrom};
-
-fn code_of(e: u64) -> u64
-    ensures { λ r. ⌜ r ≡ codeOf e ⌝ }
-{
-    if e == 0 {
-        return 0;
-    }
-    18446744073709551615 - (e - 1)
-}
-
-fn number(reply: Reply) -> u64
-    ensures { λ r. ⌜ r ≡ number reply ⌝ }
-{
-    match reply {
-        Reply::Done(n) => n,
-        Reply::Refused(e) => code_of(e.0),
-    }
-}
-
-fn replaced_by(replaces: u64, x: u64) -> Replaced
-    ensures { λ r. ⌜ r ≡ replacedBy replaces x ⌝ }
-{
-    if replaces == 0 {
-        Replaced::None
-    } else {
-        Replaced::Entry(x)
-    }
-}
+ghost use Rattle.codes.specs.Codes.{replacedBy};
+ghost use Rattle.capi.specs.Codes.{Answers, spanFrom};
 
 fn span_from(layers: &[u64], cells: usize, l: u64, code: u64) -> usize
     ensures { λ r. ⌜ r ≡ cond (eqb code 0) (min (ruleWidth * layerFirst (now (layers .entry)) l) cells) 0 ⌝ }
@@ -445,9 +419,8 @@ pub extern "C" fn skein_layer_rules(
         l,
         &mut code,
     );
-    let count = rules.len();
-    let from = span_from(layers, pool.len(), l, code);
-    write(span, 0, from as u64);
-    write(span, 1, count as u64);
+    let count = rules.len() as u64;
+    let from = span_from(layers, pool.len(), l, code) as u64;
+    report(span, from, count);
     code_of(code)
 }

@@ -25,7 +25,18 @@ deniedNeeds es L m = join (missing es L (m .source) (without (m .leave .0) REFER
 unfoldable pub deniedRefer : List ℕ → Layer → Move → ℕ
 deniedRefer es L m = join (missing es L (m .source) (meet (m .leave .0) REFER)) (missing es L (m .target) (meet (m .enter .0) REFER))
 
--- containment: "a right denied at P1 and not granted by that layer's rule on the moved object itself is denied at P2"; the rights that fail it
+-- containment: "a right denied at P1 and not granted by that layer's rule on the moved object itself is denied at P2"; the rights that fail it.
+--
+-- This is what keeps a sandbox from widening itself. A layer grants an entry what its rules say of the entry and of all directories above it, so
+-- a move to another directory exchanges what those above grant. If a right were denied under P1 and granted under P2, whoever may move the
+-- entry would come to the right by the move alone, without any rule saying so: the calibration table, moved to where the plug-in may write.
+-- So each layer by itself asks that what it denied the entry at P1 it denies at P2 too. What the layer's own rule on the object grants moves along
+-- with it, and is no gain. It is asked
+--   layer by layer: a right is denied if one layer denies it, and another layer's grant at P2 must not make up for it;
+--   of every right that the kind can hold, and not only of those that someone asked for: what lies in a moved directory moves along with it,
+--   and can be of any kind;
+--   both ways for an exchange, which moves two entries.
+-- With it every right that a layer denied an entry stays denied after every call (theorems/proofs/Denied.antt), and demand 3 rests on that.
 unfoldable pub uncontained : List ℕ → Layer → ℕ → ℕ → ℕ → ℕ → ℕ
 uncontained es L p1 p2 o rights = without (without (missing es L p1 rights) (rightsOn (L .rules) pathRule o)) (denied es L p2)
 

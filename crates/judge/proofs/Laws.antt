@@ -1,6 +1,6 @@
 -- What a judgement says, right by right: what a layer grants from the entry up, what it denies, and what the verdict of a domain tells. Assumes nothing.
 use mathlib.Core.Path.{_≡_, refl, sym, ap, _∙_}
-use mathlib.Core.Bool.{Bool, true, false, not, _&&_, _||_}
+use mathlib.Core.Bool.{Bool, true, false, not, _&&_, _||_, and-assoc}
 use mathlib.Core.List.{List}
 use Prim.Native.Nat.{ℕ, zero, suc, _≤_, pred}
 use native.Mathlib.Nat.{not-suc-le-zero}
@@ -99,10 +99,6 @@ module _ (es : List ℕ) (L : Layer) where
     way-granted k i h = way-grants es (L .rules) i (Z .root-top) maxEntries k e (Z .tops e l) h
 
 -- ---- right by right
-and-assoc : (a b c : Bool) → ((a && b) && c) ≡ (a && (b && c))
-and-assoc true b c = refl
-and-assoc false b c = refl
-
 -- of the rights m, those handled and not granted
 has-left : (m h g i : ℕ) → has (without (meet m h) g) i ≡ (has m i && (has h i && not (has g i)))
 has-left m h g i =

@@ -2,24 +2,24 @@
 use mathlib.Core.Path.{_≡_, refl, sym, _∙_}
 use mathlib.Core.Bool.{true, false, not, _||_}
 use mathlib.Core.List.{List}
-use Prim.Native.Nat.{ℕ, suc, _+_, _-_, _*_, _≤_, _<_}
+use Prim.Native.Nat.{ℕ, suc, _+_, _-_, _≤_, _<_}
 use native.Mathlib.Numerals.{add-one, sub-one}
 use native.Mathlib.Omega.{arith}
 use lib.Dec.{eqb, ltb, leb}
 use lib.ListN.{length, getD, set, length-set}
 use lib.Seq.{getD-set-same, getD-set-other}
-use borrow.Author.Tests.{eqb-true, eqb-false, eq-eqb, ne-eqb, leb-false, ltb-true, ltb-false, not-true, not-false}
+use borrow.Author.Tests.{eqb-true, eqb-false, eq-eqb, ne-eqb, leb-false, not-true, not-false}
 use Rattle.laws.specs.Cells.{putCell}
 use Rattle.laws.specs.Refusals.{first}
-use Rattle.laws.proofs.Bools.{split, clash}
+use Rattle.laws.proofs.Bools.{split}
 use Rattle.laws.proofs.Cells.{cell-put, cell-put-beside, length-putCell}
 use Rattle.laws.proofs.Refusals.{passed}
 use Rattle.laws.specs.Sums.{sumBelow, bit, tally}
 use Rattle.laws.proofs.Sums.{bit-yes, bit-no, tally-room}
 use Rattle.laws.proofs.Tests.{first-passes}
-use Rattle.access.specs.Limits.{maxRulesets, maxLayers, maxPool, maxThreads, maxDomain}
-use Rattle.tables.specs.Tables.{Tables, systemWidth, rulesetWidth, layerWidth, threadWidth, level, counter, layersUsed, poolUsed, youngest, threadLive}
-use Rattle.tables.specs.Layers.{handlesAny, rulesetCount, isOpen, layerParent, layerCount, layerHolders, layerInUse}
+use Rattle.access.specs.Limits.{maxLayers, maxPool, maxThreads, maxDomain}
+use Rattle.tables.specs.Tables.{Tables, systemWidth, layerWidth, threadWidth, level, counter, layersUsed, poolUsed, youngest, threadLive}
+use Rattle.tables.specs.Layers.{rulesetCount, isOpen, layerParent, layerCount, layerHolders, layerInUse}
 use Rattle.judge.specs.Domain.{domain}
 use Rattle.sound_domains.specs.Domains.{chainEnds, holders}
 use Rattle.sound_domains.proofs.Chains.{chain-up}
@@ -31,7 +31,8 @@ use Rattle.sound.proofs.Facts.{Sound, facts, sound-of}
 use Rattle.domain_restrict.specs.Restrict.{restrictForm, isDeep, noRoom, restrictRoom, restrictChecks, freeLayer, counted, restricted, restrictDone, restrictCall}
 use Rattle.domain_restrict.proofs.Room.{roomy}
 use Rattle.sound.proofs.Calls.{kept-call}
-use Rattle.kept_domains.proofs.Rows.{HasRow, has-row, row-past, row-beside}
+use Rattle.kept_rulesets.proofs.Rows.{open-small}
+use Rattle.kept_domains.proofs.Rows.{HasRow, has-row, row-beside}
 use Rattle.kept_domains.proofs.Threads.{live-below, threads-changed}
 use Rattle.kept_domains.proofs.Chains.{chain-short, ends-around}
 use Rattle.kept_domains.proofs.Counts.{unused-none}
@@ -46,7 +47,7 @@ pub record Allowed (T : Tables) (t r : ℕ) : Type 0 where
   pub room : layersUsed (T .system) < maxLayers
   pub space : poolUsed (T .system) + rulesetCount (T .rulesets) r ≤ maxPool
 
-allowed : (T : Tables) (t r flags : ℕ) → first (restrictChecks T t r flags) ≡ 0 → Allowed T t r
+pub allowed : (T : Tables) (t r flags : ℕ) → first (restrictChecks T t r flags) ≡ 0 → Allowed T t r
 unfolding restrictChecks restrictForm restrictRoom isDeep
 allowed T t r flags z =
     let p = passed (restrictChecks T t r flags) z in
@@ -65,14 +66,6 @@ pub room-exact : (T : Tables) (r : ℕ) → Sound T
     → noRoom (T .system) (T .rulesets) r ≡ (leb maxLayers (tally (layerInUse (T .layers)) maxLayers) || ltb maxPool (sumBelow (layerCount (T .layers)) maxLayers + rulesetCount (T .rulesets) r))
 unfolding noRoom
 room-exact T r S = rw (S .layers .counted, S .layers .filled) refl
-
--- an open ruleset is one of those that there can be
-open-below : (rs : List ℕ) (r : ℕ) → length rs ≡ rulesetWidth * maxRulesets → isOpen rs r ≡ true → r < maxRulesets
-unfolding isOpen handlesAny
-open-below rs r e h = split (ltb r maxRulesets) (ltb-true r maxRulesets)
-    (λ q.
-    let k : maxRulesets ≤ r = ltb-false r maxRulesets q in
-    clash (isOpen rs r) h (rw (row-past rs rulesetWidth maxRulesets r 0 e k, row-past rs rulesetWidth maxRulesets r 1 e k, row-past rs rulesetWidth maxRulesets r 2 e k) refl))
 
 -- ---- the counters
 module _ (sys : List ℕ) (n : ℕ) where
@@ -220,7 +213,7 @@ module _ (T : Tables) (t r : ℕ) (S : Sound T) (A : Allowed T t r) where
       let ct = counted-other sys n 1 (omega arith) in
       let lu = counted-layers sys n (S .lengths .system) in
       let pu = counted-pool sys n (S .lengths .system) in
-      let low = open-below rs r (S .lengths .rulesets) (A .opens) in
+      let low = open-small rs r (S .lengths .rulesets) (A .opens) in
       record {
         lengths = record {
           system = counted-length sys n ∙ S .lengths .system;

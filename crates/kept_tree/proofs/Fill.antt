@@ -128,7 +128,7 @@ module _ (es : List ℕ) (next next′ : ℕ) (Z : Tree es next) (n k d o : ℕ)
       (λ q. let x = eqb-false e n q in (e, old e x a, sym (dir-same es new e e (kind-at e x)) ∙ h, sym (object-at e x)))
 
 -- the lowest free entry is free
-free-entry : (es : List ℕ) → freeEntry es < maxEntries → live es (freeEntry es) ≡ false
+pub free-entry : (es : List ℕ) → freeEntry es < maxEntries → live es (freeEntry es) ≡ false
 unfolding freeEntry
 free-entry es h = not-true _ (first-passes (λ e. not (live es e)) maxEntries h)
 

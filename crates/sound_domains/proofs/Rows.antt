@@ -1,6 +1,6 @@
 -- How code comes to the test of a thread, from the cells that it reads. Assumes nothing.
-use mathlib.Core.Path.{_≡_, ap}
-use mathlib.Core.Bool.{Bool, not}
+use mathlib.Core.Path.{_≡_}
+use mathlib.Core.Bool.{Bool}
 use mathlib.Core.List.{List, [], _∷_}
 use Prim.Native.Nat.{ℕ, _*_}
 use native.Mathlib.Nat.{add-zero}
@@ -8,7 +8,7 @@ use lib.Dec.{eqb, leb}
 use lib.ListN.{getD}
 use borrow.Author.Tests.{eq-eqb, ne-eqb}
 use Rattle.laws.specs.Tests.{allOf}
-use Rattle.tables.specs.Tables.{threadWidth, youngest, noNewPrivs, admin, threadLive}
+use Rattle.tables.specs.Tables.{threadWidth, noNewPrivs, admin, threadLive}
 use Rattle.sound_domains.specs.Domains.{youngestInUse, domainFits, liveSound, freeSound, threadSound}
 
 module _ (ls ts : List ℕ) (used t : ℕ) where

@@ -9,7 +9,7 @@ use native.Mathlib.Omega.{arith}
 use lib.Dec.{eqb, ltb, leb}
 use lib.ListN.{replicate}
 use borrow.Author.Tests.{ltb-true, ltb-false, leb-true, leb-false, eqb-true, eqb-false, not-true}
-use Rattle.laws.specs.Tests.{allBelow, anyBelow}
+use Rattle.laws.specs.Tests.{anyBelow}
 use Rattle.laws.proofs.Bools.{not-of-false, split, either, clash, agree}
 use Rattle.laws.proofs.Tests.{all-at, all-of, any-start, none-at, none-of}
 use Rattle.access.specs.Limits.{maxPool}
@@ -17,9 +17,9 @@ use Rattle.tables.specs.Layers.{layerFirst, layerCount}
 use Rattle.bitmap.specs.Bitmap.{flag, inRange, runClear}
 use Rattle.bitmap.proofs.Masks.{range-at, range-of}
 use Rattle.bitmap.proofs.Flags.{flag-none}
-use Rattle.sound_layers.specs.Layers.{layerSound, runsApart, runSound}
+use Rattle.sound_layers.specs.Layers.{runsApart, runSound}
 use Rattle.sound_layers.specs.Runs.{RunsPlaced}
-use Rattle.sound_layers.proofs.Facts.{Apart, runs-apart, apart-back, used-layer}
+use Rattle.sound_layers.proofs.Facts.{Apart, runs-apart, apart-back}
 
 -- place p is in the run of layer m
 abbrev pub inRun : List ℕ → ℕ → ℕ → Bool
@@ -103,10 +103,3 @@ module _ (ls words : List ℕ) (l : ℕ) (M : Marked ls words l) where
         let s = P l in-use .1 in
         not-of-false _ (M (first + k) (omega arith) ∙ none-of (inRun ls (first + k)) l (λ m c.
         apart-free m (runs-apart ls l m (all-at (runsApart ls l) l m h c)) (first + k) (omega arith) (omega arith)))))
-
--- ---- sound layers have placed runs
-pub runs-placed : (es : List ℕ) (next level : ℕ) (ls ps : List ℕ) (used taken : ℕ) → taken ≤ maxPool → allBelow (layerSound es next level ls ps taken) used ≡ true → RunsPlaced ls used
-runs-placed es next level ls ps used taken k h l b =
-    let L = used-layer es next level ls ps taken l (all-at (layerSound es next level ls ps taken) used l h b) in
-    let i = L .in-pool in
-    (L .few, omega arith, L .empty-at-zero)

@@ -1,11 +1,11 @@
 -- Blocks of cells: joined by bit-or they are 0 exactly if each cell is 0. Assumes nothing.
-use mathlib.Core.Path.{_≡_, refl, sym, ap, _∙_}
-use mathlib.Core.Bool.{Bool, true, false, _&&_}
+use mathlib.Core.Path.{_≡_, sym}
+use mathlib.Core.Bool.{Bool, true, false, _&&_, and-assoc}
 use mathlib.Core.List.{List}
-use Prim.Native.Nat.{ℕ, _+_, _-_, _≤_, _<_}
+use Prim.Native.Nat.{ℕ, _+_, _-_, _≤_}
 use native.Mathlib.Nat.{add-zero}
 use native.Mathlib.Omega.{arith}
-use lib.Bits.{bitOr, bitAnd, or-add-and, and-le-l, and-le-r}
+use lib.Bits.{bitOr, or-add-and, and-le-l, and-le-r}
 use lib.Dec.{eqb, ltb}
 use lib.ListN.{length, getD}
 use borrow.Author.Tests.{eqb-true, eq-eqb, ltb-true, ltb-false}
@@ -27,10 +27,6 @@ or-zero a b =
     let x = eqb-true a 0 (and-l (eqb a 0) (eqb b 0) q) in
     let y = eqb-true b 0 (and-r (eqb a 0) (eqb b 0) q) in
     eq-eqb (bitOr a b) 0 (omega arith))
-
-and-assoc : (a b c : Bool) → ((a && b) && c) ≡ (a && (b && c))
-and-assoc true b c = refl
-and-assoc false b c = refl
 
 -- four cells and four cells
 joined : (a b c d e f g h : ℕ) → eqb (bitOr (bitOr (bitOr (bitOr a b) c) d) (bitOr (bitOr (bitOr e f) g) h)) 0

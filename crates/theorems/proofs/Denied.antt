@@ -31,8 +31,8 @@ use Rattle.tree.specs.Moves.{linkMove}
 use Rattle.tree.specs.Link.{linkShape, linkVerdict, linkLater, linkChecks, linked, treeLink}
 use Rattle.theorems.specs.Calls.{Call, link, outcomeOf, after, reply, caller, frees, wouldFree, isDone}
 use Rattle.theorems.specs.Claim.{domainOf, ChangesTree}
-use Rattle.theorems.proofs.Shut.{gives, Shut, shut-here, shut-cons, denied-handled, denied-shut, shut-denied, dir-live, dir-holds, live-same, still-shut}
-use Rattle.kept_tree.proofs.Written.{parent-put, object-put}
+use Rattle.theorems.proofs.Shut.{gives, Shut, shut-here, shut-cons, denied-handled, denied-shut, shut-denied, dir-holds, live-same, still-shut}
+use Rattle.kept_tree.proofs.Written.{parent-put, object-put, live-dir}
 use Rattle.theorems.proofs.Contained.{shut-there}
 use Rattle.theorems.proofs.Steps.{step}
 
@@ -145,7 +145,7 @@ module _ (T : Tables) (u s d n : ℕ) (h : sound T ≡ true) (y : reply T (link 
       let es = T .entries in
       let es′ = (after T (link u s d)) .entries in
       let f = gives (layerAt (T .layers) (T .pool) l) i in
-      let ld = dir-live es d (checked .target) in
+      let ld = live-dir es d (checked .target) in
       let sd : Shut es f d = shut-there es (counter (T .system)) (facts T h .tree) i (T .layers) (T .pool) (domainOf T u) l m hd Link s d None 0 0 (checked .within) ld r x in
       let sd′ : Shut es′ f d = still T (link u s d) l d i h m ld (link-frees d) (dir-holds es s d i (checked .target) r) hd sd in
       shut-cons es′ f n (rw link-object (shut-here es f s x)) (rw link-parent sd′)

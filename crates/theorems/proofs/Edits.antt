@@ -1,21 +1,19 @@
 -- The frame of each change of the tree. Assumes nothing.
 use mathlib.Core.Path.{_≡_, refl, sym, _∙_}
-use mathlib.Core.Bool.{Bool, true, false, not}
+use mathlib.Core.Bool.{Bool, true, false}
 use mathlib.Core.List.{List}
 use Prim.Native.Nat.{ℕ, _+_, _*_, _<_}
 use native.Mathlib.Omega.{arith}
 use lib.Dec.{eqb}
 use lib.ListN.{length}
-use borrow.Author.Tests.{eqb-true, eqb-false, ne-eqb, not-true}
+use borrow.Author.Tests.{eqb-true, eqb-false, ne-eqb}
 use Rattle.laws.proofs.Bools.{split, clash}
 use Rattle.laws.proofs.Cells.{cell-put, cell-put-other}
-use Rattle.laws.proofs.Tests.{first-passes}
-use Rattle.access.specs.Limits.{maxEntries}
 use Rattle.tables.specs.Tables.{kind, parent, object, live, isDir}
 use Rattle.sound_tree.proofs.Facts.{Tree}
 use Rattle.kept_tree.proofs.Clear.{Childless}
 use Rattle.kept_tree.proofs.Written.{put-other, kind-move, object-move, length-move}
-use Rattle.tree.specs.Entries.{freeEntry, putEntry, putParent, freeRow}
+use Rattle.tree.specs.Entries.{putEntry, putParent, freeRow}
 use Rattle.theorems.proofs.Shut.{Frame}
 
 module _ (es : List ℕ) (s d : ℕ) where
@@ -27,10 +25,6 @@ module _ (es : List ℕ) (s d : ℕ) where
       (λ q. let n : (z ≡ s → ⊥) = eqb-false z s q in rw (cell-put-other es 3 s 1 d z 1 n (omega arith) (omega arith)) (else n))
 
 -- ---- rows
-pub free-entry : (es : List ℕ) → freeEntry es < maxEntries → live es (freeEntry es) ≡ false
-unfolding freeEntry
-free-entry es h = not-true _ (first-passes (λ e. not (live es e)) maxEntries h)
-
 module _ (es : List ℕ) (next : ℕ) (Z : Tree es next) where
   pub inside : (e : ℕ) → live es e ≡ true → 3 * e + 1 < length es
   inside e l = let h = Z .small e l in let w = Z .long in omega arith

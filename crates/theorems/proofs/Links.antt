@@ -1,14 +1,13 @@
 -- A link that is made: a free entry becomes live, of the source's kind, and so the tree changes. Assumes nothing.
 use mathlib.Core.Path.{_≡_, refl, sym, ap, _∙_}
-use mathlib.Core.Bool.{true, false, not}
+use mathlib.Core.Bool.{true}
 use mathlib.Core.List.{List}
 use Prim.Native.Nat.{ℕ, _<_}
 use native.Mathlib.Omega.{arith}
 use lib.Dec.{eqb}
-use borrow.Author.Tests.{eqb-true, ltb-true, not-true, not-false}
+use borrow.Author.Tests.{eqb-true, ltb-true, not-false}
 use Rattle.laws.specs.Refusals.{Check, first}
 use Rattle.laws.proofs.Bools.{split, clash}
-use Rattle.laws.proofs.Tests.{first-passes}
 use Rattle.laws.proofs.Refusals.{passed}
 use Rattle.access.specs.Limits.{maxEntries}
 use Rattle.access.specs.declared.errno.Reply.the-variants.{Done}
@@ -20,6 +19,7 @@ use Rattle.sound.specs.Call.{call}
 use Rattle.sound.proofs.Facts.{facts}
 use Rattle.tree.specs.Entries.{freeEntry, putEntry, withEntries}
 use Rattle.tree.specs.Link.{linkShape, linkVerdict, linkLater, linkChecks, linked, treeLink}
+use Rattle.kept_tree.proofs.Fill.{free-entry}
 use Rattle.kept_domains.proofs.Rows.{HasRow, has-row, reads}
 use Rattle.theorems.specs.Calls.{link, outcomeOf, after, reply}
 use Rattle.theorems.specs.Claim.{ChangesTree}
@@ -40,11 +40,6 @@ made T cs done n r = split (sound T)
 
 abbrev linkDone : Tables → ℕ → ℕ → Outcome
 linkDone T s d = outcome (Done (freeEntry (T .entries))) (withEntries T (linked (T .entries) s d))
-
--- the lowest free entry is not live
-free-entry : (es : List ℕ) → freeEntry es < maxEntries → live es (freeEntry es) ≡ false
-unfolding freeEntry
-free-entry es h = not-true (live es (freeEntry es)) (first-passes (λ e. not (live es e)) maxEntries h)
 
 put-kind : (es : List ℕ) (e k p o : ℕ) → HasRow es entryWidth e → kind (putEntry es e k p o) e ≡ k
 unfolding putEntry

@@ -3,7 +3,7 @@ use mathlib.Core.Path.{_≡_, refl, sym, _∙_}
 use mathlib.Core.Bool.{Bool, true, false, not}
 use mathlib.Core.List.{List}
 use Prim.Native.Nat.{ℕ, zero, suc}
-use borrow.Author.Tests.{eqb-true, not-true}
+use borrow.Author.Tests.{not-true}
 use Rattle.laws.proofs.Bools.{split, clash, and-l, and-r, both, not-of-false}
 use Rattle.access.specs.Rights.{has, fileSet, allFs}
 use Rattle.access.proofs.Laws.{within-has}
@@ -15,6 +15,7 @@ use Rattle.judge.specs.Rules.{rightsOn}
 use Rattle.judge.specs.Judge.{ownRights, granted, handled, denied}
 use Rattle.judge.proofs.Laws.{granted-way, way-granted, has-denied}
 use Rattle.fs.specs.Move.{entryRights}
+use Rattle.kept_tree.proofs.Written.{live-dir}
 
 -- the layer's rule on an object gives right i
 unfoldable pub gives : Layer → ℕ → ℕ → Bool
@@ -63,10 +64,6 @@ module _ (es : List ℕ) (L : Layer) (e i : ℕ) where
       has-denied es L e i ∙ both (has (handled L) i) (not (has (granted es L e) i)) h (not-of-false _ n)
 
 -- ---- kinds
-pub dir-live : (es : List ℕ) (e : ℕ) → isDir es e ≡ true → live es e ≡ true
-unfolding isDir live
-dir-live es e h = rw (eqb-true (kind es e) 2 h) refl
-
 -- a directory can hold what any entry can
 pub dir-holds : (es : List ℕ) (e d i : ℕ) → isDir es d ≡ true → has (entryRights es e) i ≡ true → has (entryRights es d) i ≡ true
 unfolding entryRights
@@ -104,7 +101,7 @@ module _ (es es′ : List ℕ) (gone f : ℕ → Bool) (i : ℕ) (F : Frame es e
   still-shut x a g o s = shut-by es′ f In
       (λ y p. rw (F .keeps-object y (p .alive) (p .kept)) (shut-here es f y (p .shut)))
       (λ y p. let d = F .under-dir y (p .alive) (p .kept) in record {
-        alive = dir-live es (parent es′ y) d;
+        alive = live-dir es (parent es′ y) d;
         kept = F .under-kept y (p .alive) (p .kept);
         right = dir-holds es y (parent es′ y) i d (p .right);
         shut = A y (p .alive) (p .kept) (p .right) (p .shut);

@@ -7,7 +7,7 @@ use native.Mathlib.Numerals.{add-one}
 use native.Mathlib.Omega.{arith}
 use lib.Dec.{eqb, ltb}
 use lib.ListN.{length, getD}
-use borrow.Author.Tests.{eqb-true, eqb-false, leb-false, ltb-true, not-false}
+use borrow.Author.Tests.{eqb-true, eqb-false, ltb-true, not-false}
 use Rattle.laws.specs.Tests.{elem}
 use Rattle.laws.specs.Refusals.{Check, first}
 use Rattle.laws.specs.Cells.{cell, putCell}
@@ -19,7 +19,7 @@ use Rattle.laws.proofs.Refusals.{passed}
 use Rattle.access.specs.Limits.{maxThreads, maxDomain}
 use Rattle.access.specs.declared.errno.Errno.{Errno}
 use Rattle.access.specs.declared.errno.Reply.the-variants.{Done, Refused}
-use Rattle.tables.specs.Tables.{Tables, layerWidth, ruleWidth, threadWidth, level, poolUsed, youngest, noNewPrivs, admin, threadLive}
+use Rattle.tables.specs.Tables.{Tables, layerWidth, ruleWidth, threadWidth, poolUsed, youngest, noNewPrivs, admin, threadLive}
 use Rattle.tables.specs.Layers.{rulesetAt, layerParent, layerFirst, layerCount, layerAt, layerInUse}
 use Rattle.tables.specs.Outcome.{Outcome, outcome, answer}
 use Rattle.judge.specs.Domain.{chain, domain}
@@ -30,10 +30,9 @@ use Rattle.sound.proofs.Calls.{call-done}
 use Rattle.sound_domains.proofs.Hierarchy.{no-thread}
 use Rattle.ruleset.specs.Create.{createDone, created, closeDone, closed}
 use Rattle.rule.specs.Rule.{addDone, pathAdded, portAdded}
-use Rattle.domain_restrict.specs.Restrict.{restrictForm, isDeep, restrictRoom, restrictChecks, freeLayer, restricted, restrictDone, restrictCall}
+use Rattle.domain_restrict.specs.Restrict.{restrictChecks, freeLayer, restricted, restrictDone, restrictCall}
 use Rattle.domain.specs.Threads.{freeThread, cloneChecks, copiedThread, heldMore, cloneDone, cloned, markDone, privsSet, adminSet}
 use Rattle.domain.specs.Layer.{layerRead}
-use Rattle.domain_restrict.proofs.Room.{roomy}
 use Rattle.fs_access.specs.Access.{accessCall}
 use Rattle.net.specs.Port.{portCall}
 use Rattle.tree.specs.Create.{treeCreated, treeCreate, treeRemove}
@@ -47,7 +46,7 @@ use Rattle.kept_domains.proofs.Marks.{more-same}
 use Rattle.kept_domains.proofs.Chains.{chain-around, chain-agree}
 use Rattle.kept_domains.proofs.Threads.{live-below}
 use Rattle.kept_domains.proofs.Layers.{newLayers, newPool, new-other, new-parent, pool-length}
-use Rattle.kept_domains.proofs.Restrict.{Allowed, record-free, unheld, unnamed, has, same-parent}
+use Rattle.kept_domains.proofs.Restrict.{Allowed, allowed, record-free, unheld, unnamed, has, same-parent}
 use Rattle.kept_end.proofs.Put.{domain-in-use}
 use Rattle.kept_end.proofs.End.{ended-lives, ended-domain, ended-layer, end-live}
 use Rattle.theorems.specs.Calls.{Call, create-ruleset, close-ruleset, add-path-rule, add-port-rule, restrict, layer-rules, clone, end-thread, set-no-new-privs, set-admin, access, port, create, remove, link, rename, exchange, outcomeOf, after, reply, afterAll, isDone, wouldEnd, ends}
@@ -97,20 +96,6 @@ stays-self : (T : Tables) (t : ℕ) → threadLive (T .threads) t ≡ true → S
 stays-self T t v = stays-alone T T t v refl refl refl
 
 -- ---- restrict
-allowed : (T : Tables) (t r flags : ℕ) → first (restrictChecks T t r flags) ≡ 0 → Allowed T t r
-unfolding restrictChecks restrictForm restrictRoom isDeep
-allowed T t r flags z =
-    let p = passed (restrictChecks T t r flags) z in
-    let q = roomy T t r flags refl z in
-    record {
-      live = not-false _ (p .0);
-      some-level = eqb-false (level (T .system)) 0 (p .1 .0);
-      opens = not-false _ (p .1 .1 .1 .1 .0);
-      short = leb-false maxDomain (length (domain (T .layers) (T .threads) t)) (p .1 .1 .1 .1 .1 .0);
-      room = q .0;
-      space = q .1;
-    }
-
 layer-same : (ls ls′ ps ps′ : List ℕ) (l taken : ℕ) → SameRow ls ls′ layerWidth l → length ps′ ≡ length ps → ruleWidth * taken ≤ length ps
     → ((n : ℕ) → n < ruleWidth * taken → getD ps′ n 0 ≡ getD ps n 0)
     → layerFirst ls l + layerCount ls l ≤ taken → layerAt ls′ ps′ l ≡ layerAt ls ps l
@@ -296,17 +281,6 @@ refused-same T (remove t x) e h = call-same T _ _ _ e refl h
 refused-same T (link t s d) e h = call-same T _ _ _ e refl h
 refused-same T (rename t s d x) e h = call-same T _ _ _ e refl h
 refused-same T (exchange t s d x) e h = call-same T _ _ _ e refl h
-
--- ---- the same, one fact each
-module _ (T : Tables) (c : Call) (t : ℕ) (v : threadLive (T .threads) t ≡ true) (e : ends T c t ≡ false) where
-  pub layers-kept : (l : ℕ) → elem l (domainOf T t) ≡ true → layerAt ((after T c) .layers) ((after T c) .pool) l ≡ layerAt (T .layers) (T .pool) l
-  layers-kept = stays T c t v e .layers
-
-  pub thread-lives : threadLive ((after T c) .threads) t ≡ true
-  thread-lives = stays T c t v e .lives
-
-  pub domain-grows : Grown (domainOf T t) (domainOf (after T c) t)
-  domain-grows = stays T c t v e .grown
 
 -- ---- a list of calls
 stays-on : (T T1 T2 : Tables) (t : ℕ) → Stays T T1 t → Stays T1 T2 t → Stays T T2 t

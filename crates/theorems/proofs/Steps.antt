@@ -41,10 +41,11 @@ use Rattle.tree.specs.Rename.{renameNames, renameShape, renameVerdict, renameLa
 use Rattle.tree.specs.Exchange.{exchangeNames, exchangeShape, exchangeVerdict, exchangeChecks, swapped, treeExchange}
 use Rattle.theorems.specs.Calls.{Call, create-ruleset, close-ruleset, add-path-rule, add-port-rule, restrict, layer-rules, clone, end-thread, set-no-new-privs, set-admin, access, port, create, remove, link, rename, exchange, outcomeOf, after, caller, isDone, wouldFree, frees}
 use Rattle.theorems.specs.Claim.{domainOf}
-use Rattle.theorems.proofs.Shut.{gives, Shut, shut-up, dir-live, Frame, Above}
+use Rattle.theorems.proofs.Shut.{gives, Shut, shut-up, Frame, Above}
 use Rattle.kept_tree.proofs.Clear.{Childless, childless}
-use Rattle.kept_tree.proofs.Written.{put-other, length-move}
-use Rattle.theorems.proofs.Edits.{at-parent, free-entry, inside, still-frame, fill-frame, clear-frame, move-frame, replace-frame, swap-frame}
+use Rattle.kept_tree.proofs.Fill.{free-entry}
+use Rattle.kept_tree.proofs.Written.{put-other, length-move, live-dir}
+use Rattle.theorems.proofs.Edits.{at-parent, inside, still-frame, fill-frame, clear-frame, move-frame, replace-frame, swap-frame}
 use Rattle.theorems.proofs.Contained.{shut-there, shut-back}
 
 pub record Step (T : Tables) (u : ℕ) (es′ : List ℕ) (gone : ℕ → Bool) : Type 0 where
@@ -125,7 +126,7 @@ module _ (T : Tables) (s : sound T ≡ true) where
   rename-goes : (t a d : ℕ) (x : Replaced) → any (layerCrosses (T .entries) (T .layers) (T .pool) (renameMove (T .entries) a d x)) (domainOf T t) ≡ false
       → isDir (T .entries) d ≡ true → Goes t a d
   rename-goes t a d x v kd l i c hd r h = shut-there (T .entries) (counter (T .system)) whole i (T .layers) (T .pool) (domainOf T t) l c hd Rename a d (replacedKind (T .entries) x) 0 0 v
-      (dir-live (T .entries) d kd) r h
+      (live-dir (T .entries) d kd) r h
 
   -- a row freed besides
   free-above : (a d y e : ℕ) → (e ≡ y → ⊥) → (P : ℕ → Type 0) → P (parent (putParent (T .entries) a d) e) → P (parent (freeRow (putParent (T .entries) a d) y) e)
@@ -173,9 +174,9 @@ module _ (T : Tables) (s : sound T ≡ true) where
       let px : parent es x ≡ d = eqb-true (parent es x) d (not-false _ (p .1 .1 .1 .1 .1 .1 .1 .0)) in
       let v : any (layerCrosses es (T .layers) (T .pool) (exchangeMove es a d x)) (domainOf T t) ≡ false = p .1 .1 .1 .1 .1 .1 .1 .1 .1 .1 .1 .0 in
       let G : Goes t a d = λ l i c hd r h. shut-there es (counter (T .system)) whole i (T .layers) (T .pool) (domainOf T t) l c hd Exchange a d (kindAt es x) (object es x) (entryRights es x) v
-      (dir-live es d kd) r h in
+      (live-dir es d kd) r h in
       let B : Goes t x (parent es a) = λ l i c hd r h. shut-back es (counter (T .system)) whole i (T .layers) (T .pool) (domainOf T t) l c hd Exchange a d (kindAt es x) (object es x) (entryRights es x) v
-      x refl refl px (dir-live es (parent es a) (whole .in-dir a la)) r h in
+      x refl refl px (live-dir es (parent es a) (whole .in-dir a la)) r h in
       split (sameObject es a x)
       (λ q. rw q (still-step t (λ e. false) (λ e. refl)))
       (λ q. rw q (record {

@@ -1,7 +1,8 @@
 -- Assumes nothing.
 use mathlib.Core.Path.{ap, _∙_}
 use borrow.Author.Needs.{needs}
-use Rattle.capi.specs.Codes.{codeOf, spanFrom}
+use Rattle.codes.specs.Codes.{codeOf}
+use Rattle.capi.specs.Codes.{spanFrom}
 use Rattle.capi.proofs.Answers.{layer-number}
 use Rattle.capi.proofs.skein_layer_rules.Statement.{statement}
 use Rattle.capi.proofs.skein_layer_rules.Tie as tie
@@ -15,11 +16,9 @@ skein-layer-rules-spec =
     (λ c κs. tt)
     (λ c κs. tt)
     (λ c κs. tt)
-    (λ c κs. tt)
     (λ c. search needs)
     (λ c.
     let w = c .before .before .before in
-    let v = w .before .before .before .before in
-    let s = v .before .before in
+    let s = w .before .before in
     let l = s .before .layer-rules .ensures in
-    ((c .code-of .ensures ∙ ap codeOf (l .1 .0) ∙ layer-number _ _, l .1 .1), rw (w .write2 .ensures, v .write .ensures, s .span-from .ensures, l .1 .0, l .0))))
+    ((c .code-of .ensures ∙ ap codeOf (l .1 .0) ∙ layer-number _ _, l .1 .1), rw (w .report .ensures, s .span-from .ensures, l .1 .0, l .0))))

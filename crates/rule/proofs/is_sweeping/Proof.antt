@@ -1,7 +1,6 @@
 -- Assumes nothing.
-use mathlib.Core.Path.{ap, _∙_}
+use mathlib.Core.Path.{ap}
 use mathlib.Core.Bool.{not}
-use lib.Dec.{eqb}
 use borrow.Author.Tests.{eq-eqb, ne-eqb}
 use Rattle.rule.specs.Rule.{sweeping}
 use Rattle.rule.proofs.is_sweeping.Statement.{statement}

@@ -2,7 +2,6 @@
 use mathlib.Core.Path.{_≡_, refl, sym, ap, _∙_}
 use Prim.Native.Nat.{ℕ, _*_, _≤_}
 use native.Mathlib.Omega.{arith}
-use borrow.Author.Needs.{needs}
 use borrow.Author.Tests.{not-true, not-false}
 use Rattle.sound_objects.specs.Rows.{blockRows, blocks, usedBlocks}
 use Rattle.sound_objects.proofs.Rows.{used-none, used-free, used-here}

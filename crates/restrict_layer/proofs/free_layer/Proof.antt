@@ -8,8 +8,8 @@ use Rattle.laws.proofs.Tests.{any-start, any-more, first-found, first-none}
 use Rattle.access.specs.Limits.{maxLayers}
 use Rattle.tables.specs.Layers.{layerInUse}
 use Rattle.domain_restrict.specs.Restrict.{freeLayer}
-use Rattle.restrict_apply.proofs.free_layer.Statement.{statement}
-use Rattle.restrict_apply.proofs.free_layer.Tie as tie
+use Rattle.restrict_layer.proofs.free_layer.Statement.{statement}
+use Rattle.restrict_layer.proofs.free_layer.Tie as tie
 
 abbrev Inv-loop : tie.InvT-loop
 Inv-loop layers l₀ l = (l ≤ maxLayers) × (anyBelow (λ m. not (layerInUse layers m)) l ≡ false)

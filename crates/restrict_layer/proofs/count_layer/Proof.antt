@@ -2,8 +2,8 @@
 use borrow.Author.Needs.{needs}
 use native.Mathlib.Omega.{arith}
 use Rattle.domain_restrict.specs.Restrict.{counted}
-use Rattle.restrict_apply.proofs.count_layer.Statement.{statement}
-use Rattle.restrict_apply.proofs.count_layer.Tie as tie
+use Rattle.restrict_layer.proofs.count_layer.Statement.{statement}
+use Rattle.restrict_layer.proofs.count_layer.Tie as tie
 
 pub count-layer-spec : {M : Type 1} → statement M
 unfolding counted

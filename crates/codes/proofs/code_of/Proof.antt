@@ -2,9 +2,9 @@
 use native.Mathlib.Omega.{arith}
 use borrow.Author.Needs.{needs}
 use borrow.Author.Tests.{eq-eqb, ne-eqb}
-use Rattle.capi.specs.Codes.{codeOf}
-use Rattle.capi.proofs.code_of.Statement.{statement}
-use Rattle.capi.proofs.code_of.Tie as tie
+use Rattle.codes.specs.Codes.{codeOf}
+use Rattle.codes.proofs.code_of.Statement.{statement}
+use Rattle.codes.proofs.code_of.Tie as tie
 
 pub code-of-spec : {M : Type 1} → statement M
 unfolding codeOf

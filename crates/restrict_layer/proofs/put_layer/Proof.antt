@@ -3,8 +3,8 @@ use mathlib.Core.Logic.{⊎-elim}
 use borrow.Author.Needs.{needs}
 use Rattle.domain.proofs.Choices.{chosen-first, chosen-second}
 use Rattle.domain_restrict.proofs.Changes.{row-by}
-use Rattle.restrict_apply.proofs.put_layer.Statement.{statement}
-use Rattle.restrict_apply.proofs.put_layer.Tie as tie
+use Rattle.restrict_layer.proofs.put_layer.Statement.{statement}
+use Rattle.restrict_layer.proofs.put_layer.Tie as tie
 
 pub put-layer-spec : {M : Type 1} → statement M
 put-layer-spec =

@@ -1,8 +1,8 @@
 -- Assumes nothing.
 use borrow.Author.Tests.{eq-eqb, ne-eqb}
-use Rattle.capi.specs.Codes.{replacedBy}
-use Rattle.capi.proofs.replaced_by.Statement.{statement}
-use Rattle.capi.proofs.replaced_by.Tie as tie
+use Rattle.codes.specs.Codes.{replacedBy}
+use Rattle.codes.proofs.replaced_by.Statement.{statement}
+use Rattle.codes.proofs.replaced_by.Tie as tie
 
 pub replaced-by-spec : {M : Type 1} → statement M
 unfolding replacedBy

@@ -1,8 +1,8 @@
 -- Assumes nothing.
 use borrow.Author.Needs.{needs}
-use Rattle.capi.specs.Codes.{number}
-use Rattle.capi.proofs.number.Statement.{statement}
-use Rattle.capi.proofs.number.Tie as tie
+use Rattle.codes.specs.Codes.{number}
+use Rattle.codes.proofs.number.Statement.{statement}
+use Rattle.codes.proofs.number.Tie as tie
 
 pub number-spec : {M : Type 1} → statement M
 unfolding number

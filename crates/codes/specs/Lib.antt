@@ -1,0 +1,2 @@
+-- Replies and entries as numbers.
+pub mod Codes

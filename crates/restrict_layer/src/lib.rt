@@ -1,0 +1,65 @@
+// A new layer: its record, and how it is counted.
+use access::limits::MAX_LAYERS;
+use cells::row_write;
+use cells::write;
+use tables::rows::LAYER_WIDTH;
+use tables::rows::layer_in_use;
+use tables::rows::layers_used;
+use tables::rows::pool_used;
+ghost use mathlib.Core.Path.{_≡_};
+ghost use Prim.Native.Nat.{_+_, _≤_, _<_};
+ghost use Rattle.access.specs.Limits.{maxLayers, maxPool};
+ghost use Rattle.tables.specs.Tables.{layersUsed, poolUsed};
+ghost use Rattle.domain_restrict.specs.Restrict.{freeLayer, layerRow, counted};
+
+// The lowest layer record not in use; the number of records if all are.
+pub fn free_layer(layers: &[u64]) -> u64
+    ensures { λ r. ⌜ r ≡ freeLayer (now (layers .entry)) ⌝ }
+{
+    let mut l = 0;
+    while l < MAX_LAYERS as u64 {
+        if !layer_in_use(layers, l) {
+            return l;
+        }
+        l += 1;
+    }
+    l
+}
+
+pub fn put_layer(
+    layers: &mut [u64],
+    l: u64,
+    parent: u64,
+    fs: u64,
+    net: u64,
+    scope: u64,
+    first: u64,
+    count: u64,
+)
+    ensures { λ r. ⌜ now (layers .exit) ≡ layerRow (now (layers .entry)) l parent fs net scope first count ⌝ }
+{
+    row_write(layers, LAYER_WIDTH, l as usize, 0, parent);
+    row_write(layers, LAYER_WIDTH, l as usize, 1, fs);
+    row_write(layers, LAYER_WIDTH, l as usize, 2, net);
+    row_write(layers, LAYER_WIDTH, l as usize, 3, scope);
+    row_write(
+        layers,
+        LAYER_WIDTH,
+        l as usize,
+        4,
+        if count == 0 { 0 } else { first },
+    );
+    row_write(layers, LAYER_WIDTH, l as usize, 5, count);
+    row_write(layers, LAYER_WIDTH, l as usize, 6, 1);
+}
+
+// Counts the new layer and its rules.
+pub fn count_layer(system: &mut [u64], count: u64)
+    requires { ⌜ (layersUsed (now system) < maxLayers) × (poolUsed (now system) + count ≤ maxPool) ⌝ }
+    ensures { λ r. ⌜ now (system .exit) ≡ counted (now (system .entry)) count ⌝ }
+{
+    let l = layers_used(system);
+    let p = pool_used(system);
+    write(system, 2, l + 1);
+    write(system, 3, p + count);
+}
