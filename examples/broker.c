@@ -47,7 +47,7 @@ struct plugin {
 	uint64_t rights[GRANTS];
 	const struct request *requests;
 	int connection; /* -1 before it comes and after it has left */
-	uint64_t thread;
+	uint64_t thread; /* live as long as the connection */
 	pid_t process;
 };
 
@@ -372,6 +372,14 @@ static void log_request(const struct plugin *plugin, const struct request *reque
 	putchar('\n');
 }
 
+/* Lets a plug-in go. Its thread ends, so that its number and layers are there for another. */
+static void let_go(struct plugin *plugin)
+{
+	close(plugin->connection);
+	plugin->connection = -1;
+	must("end", skeinrabbit_end(&tables, plugin->thread));
+}
+
 /* Answers one request, or lets the plug-in go if it has left or does not read. The broker never waits for one of them. */
 static void serve(struct plugin *plugin)
 {
@@ -386,10 +394,8 @@ static void serve(struct plugin *plugin)
 		answer = judge(plugin->thread, &request);
 		log_request(plugin, &request, &answer);
 	}
-	if (length <= 0 || send(plugin->connection, &answer.reply, sizeof(answer.reply), MSG_DONTWAIT | MSG_NOSIGNAL) < 0) {
-		close(plugin->connection);
-		plugin->connection = -1;
-	}
+	if (length <= 0 || send(plugin->connection, &answer.reply, sizeof(answer.reply), MSG_DONTWAIT | MSG_NOSIGNAL) < 0)
+		let_go(plugin);
 }
 
 static void serve_all(void)
@@ -493,6 +499,7 @@ static int report(void)
 		printf("%s %s what it should\n", plugins[i].name, well ? "got" : "did not get");
 		wrong |= !well;
 	}
+	printf("%u layers are in use when both have left\n", (unsigned)tables.system[2]);
 	printf("/cal/table %s\n", strcmp(table.reply.text, TABLE_TEXT) == 0 ? "holds what it held at the start" : "has changed");
 	return wrong;
 }

@@ -17,11 +17,12 @@
  * - the program is for x86-64 Linux, as the archive is.
  *
  * What a broker on top of it must know (docs/BROKER.md):
- * - The number of a removed entry or a closed ruleset is given out again, lowest first, and after skeinrabbit_fresh every number
- *   is: a number that is kept too long names something else. Numbers are no secrets: whoever may name any thread may do what any
- *   thread may.
+ * - The number of a removed entry, a closed ruleset or a thread that has ended is given out again, lowest first, and after
+ *   skeinrabbit_fresh every number is: a number that is kept too long names something else. Numbers are no secrets: whoever may
+ *   name any thread may do what any thread may.
  * - The tables are shared and small: 1,024 entries, 16 rulesets, 256 layers, 1,024 rules of layers, 8 threads. A plug-in that may
- *   create, or reach skeinrabbit_clone, can fill them for all.
+ *   create, or reach skeinrabbit_clone, can fill them for all. Layers and their rules come back when the threads that have them
+ *   end.
  * - That a sandbox cannot widen itself is said of one domain and those grown from it (docs/THEOREMS.md). Two plug-ins, each with
  *   a safe policy of its own, may do together what neither may do alone: examples/together.skein.
  */
@@ -52,7 +53,7 @@ extern "C" {
 #define SKEIN_SYSTEM_CELLS 4
 #define SKEIN_ENTRY_CELLS 3
 #define SKEIN_RULESET_CELLS (4 + SKEIN_MAX_RULES * SKEIN_RULE_CELLS)
-#define SKEIN_LAYER_CELLS 6
+#define SKEIN_LAYER_CELLS 7
 #define SKEIN_THREAD_CELLS 4
 
 /* The six tables. A free row is zero in every cell. */
@@ -63,7 +64,7 @@ struct skein_tables {
 	uint64_t entries[SKEIN_MAX_ENTRIES * SKEIN_ENTRY_CELLS];
 	/* handled_access_fs, handled_access_net, scoped, number of rules, rules */
 	uint64_t rulesets[SKEIN_MAX_RULESETS * SKEIN_RULESET_CELLS];
-	/* parent layer + 1 (0: none), the three masks, first pool rule, number of rules */
+	/* parent layer + 1 (0: none), the three masks, first pool rule, number of rules, number of holders (0: free) */
 	uint64_t layers[SKEIN_MAX_LAYERS * SKEIN_LAYER_CELLS];
 	/* rules: type, key (object number or port), allowed_access */
 	uint64_t pool[SKEIN_MAX_POOL_RULES * SKEIN_RULE_CELLS];
@@ -175,6 +176,7 @@ extern uint64_t skein_add_port_rule(SKEIN_TABLE_PARAMETERS(uint64_t), uint64_t r
 extern uint64_t skein_restrict(SKEIN_TABLE_PARAMETERS(uint64_t), uint64_t thread, uint64_t ruleset, uint64_t flags);
 extern uint64_t skein_layer_rules(SKEIN_TABLE_PARAMETERS(const uint64_t), uint64_t layer, uint64_t *part, size_t part_length);
 extern uint64_t skein_clone(SKEIN_TABLE_PARAMETERS(uint64_t), uint64_t thread);
+extern uint64_t skein_end(SKEIN_TABLE_PARAMETERS(uint64_t), uint64_t thread);
 extern uint64_t skein_set_no_new_privs(SKEIN_TABLE_PARAMETERS(uint64_t), uint64_t thread);
 extern uint64_t skein_set_admin(SKEIN_TABLE_PARAMETERS(uint64_t), uint64_t thread, uint64_t on);
 extern uint64_t skein_access(SKEIN_TABLE_PARAMETERS(const uint64_t), uint64_t thread, uint64_t entry, uint64_t rights);
@@ -257,9 +259,9 @@ static inline int64_t skeinrabbit_add_port_rule(struct skein_tables *t, uint64_t
 }
 
 /*
- * Gives a thread one more layer, a copy of the ruleset at this moment.
+ * Gives a thread one more layer, a copy of the ruleset at this moment; it takes the lowest free record.
  * ESRCH thread not live; EOPNOTSUPP level 0; EPERM neither no_new_privs nor admin; EINVAL flags not 0; EBADF ruleset not open;
- * E2BIG 64 layers already; ENOMEM no layer record or too few pool rules left.
+ * E2BIG 64 layers already; ENOMEM no layer record or too few pool rules left by the layers of live threads.
  */
 static inline int64_t skeinrabbit_restrict(struct skein_tables *t, uint64_t thread, uint64_t ruleset, uint64_t flags)
 {
@@ -288,6 +290,15 @@ static inline int64_t skeinrabbit_layer_rules(const struct skein_tables *t, uint
 static inline int64_t skeinrabbit_clone(struct skein_tables *t, uint64_t thread)
 {
 	return skeinrabbit_answer(skein_clone(SKEIN_TABLE_ARGUMENTS(t), thread));
+}
+
+/*
+ * Ends a thread. Its number, and the layers and pool rules that no other live thread reaches, are used again.
+ * ESRCH thread not live; EBUSY the only live thread.
+ */
+static inline int64_t skeinrabbit_end(struct skein_tables *t, uint64_t thread)
+{
+	return skeinrabbit_answer(skein_end(SKEIN_TABLE_ARGUMENTS(t), thread));
 }
 
 /*

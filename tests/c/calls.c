@@ -82,6 +82,23 @@ static void tree_calls(struct skein_tables *t)
 	expect("remove", skeinrabbit_remove(t, 0, 4), 0);
 }
 
+static void end_calls(struct skein_tables *t)
+{
+	const uint64_t *rules = NULL;
+	size_t cells = 99;
+
+	expect("end, not live", skeinrabbit_end(t, 2), -SKEIN_ESRCH);
+	expect("clone", skeinrabbit_clone(t, 1), 2);
+	expect("holders", (int64_t)t->layers[SKEIN_LAYER_CELLS - 1], 2);
+	expect("end", skeinrabbit_end(t, 1), 0);
+	expect("layer_rules, held by a clone", skeinrabbit_layer_rules(t, 0, &rules, &cells), 0);
+	expect("end of the clone", skeinrabbit_end(t, 2), 0);
+	expect("layer_rules, given back", skeinrabbit_layer_rules(t, 0, &rules, &cells), -SKEIN_EBADF);
+	expect("pool rules used", (int64_t)t->system[3], 0);
+	expect("end, the only thread", skeinrabbit_end(t, SKEIN_FIRST_THREAD), -SKEIN_EBUSY);
+	expect("clone, a number used again", skeinrabbit_clone(t, SKEIN_FIRST_THREAD), 1);
+}
+
 /* The limits that the header names, on fresh tables. */
 static void limits(struct skein_tables *t)
 {
@@ -98,13 +115,16 @@ static void limits(struct skein_tables *t)
 		expect("restrict, 64 layers", skeinrabbit_restrict(t, thread + 1, 0, 0), -SKEIN_E2BIG);
 	}
 	expect("restrict, no layer record", skeinrabbit_restrict(t, 0, 0, 0), -SKEIN_ENOMEM);
+	expect("end", skeinrabbit_end(t, 2), 0);
+	expect("restrict, the lowest free record", skeinrabbit_restrict(t, 0, 0, 0), 0);
+	expect("its number + 1", (int64_t)t->threads[1], SKEIN_MAX_DOMAIN_LAYERS + 1);
 }
 
 int main(void)
 {
 	struct skein_tables *const t = &tables;
 
-	expect("bytes of the tables", (int64_t)sizeof(*t), 86816);
+	expect("bytes of the tables", (int64_t)sizeof(*t), 88864);
 	expect("access, tables of zeros", skeinrabbit_access(t, 0, SKEIN_ROOT, SKEIN_FS_READ_FILE), -SKEIN_EIO);
 	expect("create_ruleset, tables of zeros", skeinrabbit_create_ruleset(t, NULL, 24, 0), -SKEIN_EIO);
 	expect("fresh, level 7", skeinrabbit_fresh(t, SKEIN_MAX_LEVEL + 1), -SKEIN_EINVAL);
@@ -118,6 +138,7 @@ int main(void)
 	domain_calls(t);
 	requests(t);
 	tree_calls(t);
+	end_calls(t);
 	limits(t);
 	return differences == 0 ? 0 : 1;
 }

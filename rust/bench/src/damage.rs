@@ -2,8 +2,8 @@
 
 use crate::inputs::Random;
 use crate::landlock::OBJECTS_END;
-use crate::tables::Tables;
-use skeinrabbit_sys::layout::{LAYER_WIDTH, MAX_DOMAIN, THREAD_WIDTH, WIDTHS};
+use crate::tables::{Tables, HOLDERS};
+use skeinrabbit_sys::layout::{LAYER_WIDTH, MAX_DOMAIN, RULE_WIDTH, WIDTHS};
 
 /// The tables with one or two cells changed, or with a table of wrong length.
 pub fn damaged(tables: &Tables, random: &mut Random) -> Tables {
@@ -30,29 +30,44 @@ pub fn at_limits(tables: &Tables) -> Vec<Tables> {
     for counter in [OBJECTS_END, OBJECTS_END + 1] {
         add(&|variant| variant.system[1] = counter);
     }
-    for youngest in MAX_DOMAIN..=MAX_DOMAIN + 1 {
-        add(&|variant| one_domain(variant, youngest as u64));
+    for layers in MAX_DOMAIN..=MAX_DOMAIN + 1 {
+        add(&|variant| one_domain(variant, layers));
     }
     add(&|variant| {
-        one_domain(variant, 0);
-        // The first layer is its own parent, in no thread's domain.
+        one_domain(variant, 1);
+        // The only layer is its own parent, in no thread's domain.
         variant.layers[0] = 1;
+        variant.threads[1] = 0;
     });
+    for used in 2..4 {
+        add(&|variant| variant.system[used] += 1);
+        add(&|variant| variant.system[used] = variant.system[used].wrapping_sub(1));
+    }
     for table in 0..6 {
         add(&|variant| *variant.all_mut()[table].last_mut().unwrap() = 1);
     }
     variants
 }
 
-/// Puts all layers in one line, of which the only thread has so many.
-fn one_domain(tables: &mut Tables, youngest: u64) {
-    let used = tables.system[2] as usize;
-    let rows = tables.layers.chunks_exact_mut(LAYER_WIDTH);
-    for (number, row) in rows.take(used).enumerate() {
-        row[0] = number as u64;
+/// Leaves the first layers, or fewer where there are no more, in one line in the domain of the only thread. Their rules stand first in
+/// the pool.
+fn one_domain(tables: &mut Tables, layers: usize) {
+    let kept = layers.min(tables.system[2] as usize);
+    let mut rules = 0;
+    for (number, row) in tables.layers.chunks_exact_mut(LAYER_WIDTH).enumerate() {
+        if number < kept {
+            row[0] = number as u64;
+            row[HOLDERS] = 1;
+            rules += row[5];
+        } else {
+            row.fill(0);
+        }
     }
+    tables.system[2] = kept as u64;
+    tables.system[3] = rules;
+    tables.pool[RULE_WIDTH * rules as usize..].fill(0);
     tables.threads.fill(0);
-    tables.threads[..THREAD_WIDTH].copy_from_slice(&[1, youngest, 0, 0]);
+    tables.put_thread(0, [1, kept as u64, 0, 0]);
 }
 
 fn resize(tables: &mut Tables, random: &mut Random) {

@@ -4,10 +4,10 @@ use crate::landlock::{
     ALL_FS, ALL_NET, DIRECTORY, FILE_SET, LAST_LEVEL, MAKE_REG, PATH_RULE, PORT_RULE, READ_FILE,
     REFER, REGULAR, REMOVE_FILE,
 };
-use crate::tables::Tables;
+use crate::tables::{Tables, HOLDERS};
 use skeinrabbit_sys::layout::{
-    ENTRY_WIDTH, LAYER_WIDTH, MAX_DOMAIN, MAX_ENTRIES, MAX_LAYERS, MAX_POOL, MAX_RULES,
-    MAX_RULESETS, MAX_THREADS, RULESET_HEAD, RULESET_WIDTH, RULE_WIDTH, THREAD_WIDTH,
+    ENTRY_WIDTH, MAX_DOMAIN, MAX_ENTRIES, MAX_LAYERS, MAX_POOL, MAX_RULES, MAX_RULESETS,
+    MAX_THREADS, RULESET_HEAD, RULESET_WIDTH, RULE_WIDTH,
 };
 
 /// Rights that every layer handles and grants from the root down.
@@ -135,6 +135,16 @@ pub fn chain() -> Tables {
     build.tables
 }
 
+/// A tree of 1,000 entries, a thread without a layer and one with a domain of 64 layers, which no other one has.
+pub fn with_leaver() -> Tables {
+    let mut build = Build::new(6);
+    build.tree(1000);
+    let layers = MAX_DOMAIN as u64;
+    let youngest = build.domain(layers, |layer| rules_of(layer, layers), 1000);
+    build.thread(1, youngest);
+    build.tables
+}
+
 /// The tables with every object number multiplied by 1,024: all fall into one bucket.
 pub fn one_bucket(mut tables: Tables) -> Tables {
     tables.system[1] *= 1024;
@@ -216,8 +226,10 @@ impl Build {
     fn layer(&mut self, parent: u64, count: u64, entries: usize) -> u64 {
         let [layer, place] = [self.tables.system[2], self.tables.system[3]];
         let (handled, rules) = self.rules(count, entries);
-        let row = [parent, handled, ALL_NET, 0, place, count];
-        self.tables.layers[LAYER_WIDTH * layer as usize..][..row.len()].copy_from_slice(&row);
+        let row = [parent, handled, ALL_NET, 0, place, count, 0];
+        let cells = self.tables.layer_mut(layer as usize);
+        cells.copy_from_slice(&row);
+        self.hold(parent);
         self.tables.pool[RULE_WIDTH * place as usize..][..rules.len()].copy_from_slice(&rules);
         self.tables.system[2] += 1;
         self.tables.system[3] += count;
@@ -274,7 +286,14 @@ impl Build {
     }
 
     fn thread(&mut self, thread: usize, youngest: u64) {
-        let row = [1, youngest, 1, 0];
-        self.tables.threads[THREAD_WIDTH * thread..][..THREAD_WIDTH].copy_from_slice(&row);
+        self.tables.put_thread(thread as u64, [1, youngest, 1, 0]);
+        self.hold(youngest);
+    }
+
+    /// Counts a holder of a layer (its number + 1, or 0).
+    fn hold(&mut self, layer: u64) {
+        if let Some(number) = layer.checked_sub(1) {
+            self.tables.layer_mut(number as usize)[HOLDERS] += 1;
+        }
     }
 }

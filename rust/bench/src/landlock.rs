@@ -27,6 +27,7 @@ pub const OBJECTS_END: u64 = 1 << 32;
 pub const ENOENT: u64 = 2;
 pub const ESRCH: u64 = 3;
 pub const EIO: u64 = 5;
+pub const EAGAIN: u64 = 11;
 pub const EACCES: u64 = 13;
 pub const EBUSY: u64 = 16;
 pub const EXDEV: u64 = 18;

@@ -1,7 +1,10 @@
 //! The six tables of cells that both sides work on.
 
-use skeinrabbit_sys::layout::{ENTRY_WIDTH, MAX_ENTRIES, SIZES, THREAD_WIDTH};
+use skeinrabbit_sys::layout::{ENTRY_WIDTH, LAYER_WIDTH, MAX_ENTRIES, SIZES, THREAD_WIDTH};
 use skeinrabbit_sys::Cells;
+
+/// The cell of a layer that counts its holders.
+pub const HOLDERS: usize = LAYER_WIDTH - 1;
 
 #[derive(Clone, PartialEq, Eq)]
 pub struct Tables {
@@ -66,6 +69,13 @@ impl Tables {
         ]
     }
 
+    /// Makes every cell as in other tables.
+    pub fn copy_from(&mut self, other: &Tables) {
+        for (to, from) in self.all_mut().into_iter().zip(other.all()) {
+            to.copy_from_slice(from);
+        }
+    }
+
     /// An entry's kind; 0 for a number that is no live entry's.
     pub fn kind(&self, entry: u64) -> u64 {
         if entry < MAX_ENTRIES as u64 {
@@ -95,6 +105,20 @@ impl Tables {
     /// A live thread's youngest layer: its number + 1, or 0.
     pub fn youngest(&self, thread: u64) -> u64 {
         self.threads[THREAD_WIDTH * thread as usize + 1]
+    }
+
+    pub fn put_thread(&mut self, thread: u64, row: [u64; THREAD_WIDTH]) {
+        self.threads[THREAD_WIDTH * thread as usize..][..THREAD_WIDTH].copy_from_slice(&row);
+    }
+
+    pub fn live_threads(&self) -> usize {
+        let rows = self.threads.chunks_exact(THREAD_WIDTH);
+        rows.filter(|row| row[0] != 0).count()
+    }
+
+    /// The row of a layer, to be written.
+    pub fn layer_mut(&mut self, layer: usize) -> &mut [u64] {
+        &mut self.layers[LAYER_WIDTH * layer..][..LAYER_WIDTH]
     }
 
     /// The number of live entries, which come first in the tables measured here.

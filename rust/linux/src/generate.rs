@@ -27,7 +27,7 @@ pub struct Generator<'a> {
 
 type Choice = fn(&mut Generator) -> Call;
 
-const CHOICES: [(u64, Choice); 14] = [
+const CHOICES: [(u64, Choice); 15] = [
     (24, |g| g.access()),
     (6, |g| g.port()),
     (9, |g| g.create()),
@@ -40,7 +40,8 @@ const CHOICES: [(u64, Choice); 14] = [
     (6, |g| g.add_path_rule()),
     (2, |g| g.add_port_rule()),
     (2, |g| g.restrict()),
-    (1, |g| g.clone()),
+    (2, |g| g.clone()),
+    (2, |g| g.end()),
     (1, |g| g.mark()),
 ];
 
@@ -51,6 +52,8 @@ impl Generator<'_> {
         match choice(self) {
             Call::Port { .. } if !self.machine.tcp => self.access(),
             Call::Exchange { .. } if !self.machine.exchange => self.rename(),
+            // Without a thread the process has ended.
+            Call::End { thread } if self.tables.live_threads() == [thread] => self.access(),
             call => call,
         }
     }
@@ -422,6 +425,12 @@ impl Generator<'_> {
 
     fn clone(&mut self) -> Call {
         Call::Clone {
+            thread: self.thread(),
+        }
+    }
+
+    fn end(&mut self) -> Call {
+        Call::End {
             thread: self.thread(),
         }
     }

@@ -7,6 +7,7 @@ use crate::sys;
 use crate::task::Task;
 use model::call::Call;
 use model::state::{MAX_ENTRIES, MAX_RULESETS};
+use std::collections::BTreeMap;
 use std::ffi::c_int;
 
 /// What stands for an entry or a ruleset that is not there.
@@ -26,7 +27,8 @@ pub struct Kernel {
     names_given: u64,
     /// The descriptor of each open ruleset.
     rulesets: [Option<c_int>; MAX_RULESETS as usize],
-    tasks: Vec<Task>,
+    /// The Linux thread of each live thread.
+    tasks: BTreeMap<u64, Task>,
     started: Option<Task>,
 }
 
@@ -40,7 +42,7 @@ impl Kernel {
             names: vec![String::new(); MAX_ENTRIES as usize],
             names_given: 0,
             rulesets: [None; MAX_RULESETS as usize],
-            tasks: vec![Task::start()],
+            tasks: BTreeMap::from([(0, Task::start())]),
             started: None,
         }
     }
@@ -50,16 +52,23 @@ impl Kernel {
         let operation = self.operation(tables, call);
         let answer = match (&operation, thread_of(call)) {
             (Operation::StartThread, Some(thread)) => {
-                self.started = Some(self.tasks[thread as usize].start_another());
+                self.started = Some(self.tasks[&thread].start_another());
                 0
             }
+            (Operation::ExitThread, Some(thread)) => self.exit(thread),
             (_, Some(thread)) => {
                 let operation = operation.clone();
-                self.tasks[thread as usize].run(move || operation.run())
+                self.tasks[&thread].run(move || operation.run())
             }
             (_, None) => operation.run(),
         };
         (operation, answer)
+    }
+
+    /// Lets a thread exit, and waits until it has.
+    fn exit(&mut self, thread: u64) -> i64 {
+        drop(self.tasks.remove(&thread));
+        0
     }
 
     fn operation(&mut self, tables: &Broker, call: &Call) -> Operation {
@@ -69,6 +78,7 @@ impl Kernel {
                 flags: flags as u32,
             },
             Call::Clone { .. } => Operation::StartThread,
+            Call::End { .. } => Operation::ExitThread,
             Call::SetNoNewPrivs { .. } => Operation::SetNoNewPrivs,
             Call::SetAdmin { on, .. } => Operation::SetAdmin { on: on != 0 },
             Call::Port { port, rights, .. } => Operation::Tcp {
@@ -232,7 +242,10 @@ impl Kernel {
         match *call {
             Call::CreateRuleset { .. } => self.rulesets[number as usize] = Some(linux as c_int),
             Call::CloseRuleset { ruleset } => self.rulesets[ruleset as usize] = None,
-            Call::Clone { .. } => self.tasks.extend(self.started.take()),
+            Call::Clone { .. } => {
+                let started = self.started.take();
+                self.tasks.extend(started.map(|task| (number as u64, task)));
+            }
             Call::Create { .. } | Call::Link { .. } => {
                 self.names[number as usize] = self.newest_name()
             }
@@ -267,6 +280,7 @@ fn thread_of(call: &Call) -> Option<u64> {
     match *call {
         Call::Restrict { thread, .. }
         | Call::Clone { thread }
+        | Call::End { thread }
         | Call::SetNoNewPrivs { thread }
         | Call::SetAdmin { thread, .. }
         | Call::Access { thread, .. }

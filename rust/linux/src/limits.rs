@@ -7,11 +7,31 @@ use model::call::Call;
 use model::state::{MAX_RULES, MAX_RULESETS, MAX_THREADS};
 
 pub fn play(scenario: &mut Scenario) -> Result<(), Stop> {
-    let fill = scenario
-        .random
-        .pick(&[rulesets, rules, root_rule, domain, layers, pool, threads]);
+    let fill = scenario.random.pick(&[
+        rulesets, rules, root_rule, domain, layers, pool, pool_again, threads,
+    ]);
     scenario.ask(Call::SetNoNewPrivs { thread: 0 })?;
     fill(scenario)
+}
+
+/// Builds a domain with as many layers as Linux lets it have, on a thread of its own, and drops it, so many times: far more layers
+/// than there are records.
+pub fn drop_chains(scenario: &mut Scenario, times: usize) -> Result<(), Stop> {
+    scenario.ask(Call::SetNoNewPrivs { thread: 0 })?;
+    open_ruleset(scenario)?;
+    add_rules(scenario, 3)?;
+    for _ in 0..times {
+        scenario.ask(Call::Clone { thread: 0 })?;
+        restrict(scenario, 1, MAX_KERNEL_DOMAIN)?;
+        let entry = scenario.random.between(0, 3);
+        scenario.ask(Call::Access {
+            thread: 1,
+            entry,
+            rights: READ_DIR,
+        })?;
+        scenario.ask(Call::End { thread: 1 })?;
+    }
+    Ok(())
 }
 
 /// Opens a ruleset that handles everything known to the level.
@@ -152,10 +172,28 @@ fn pool(scenario: &mut Scenario) -> Result<(), Stop> {
     restrict(scenario, 0, 1)
 }
 
-/// A ninth thread.
+/// A pool that is full, and again after the thread that filled it has ended.
+fn pool_again(scenario: &mut Scenario) -> Result<(), Stop> {
+    open_ruleset(scenario)?;
+    add_rules(scenario, MAX_RULES)?;
+    for _ in 0..2 {
+        scenario.ask(Call::Clone { thread: 0 })?;
+        restrict(scenario, 1, MAX_KERNEL_DOMAIN)?;
+        restrict(scenario, 1, 1)?;
+        scenario.ask(Call::End { thread: 1 })?;
+    }
+    restrict(scenario, 0, 1)
+}
+
+/// Numbers of threads that have ended, and a ninth thread.
 fn threads(scenario: &mut Scenario) -> Result<(), Stop> {
-    for _ in 0..MAX_THREADS {
+    for _ in 1..MAX_THREADS {
         scenario.ask(Call::Clone { thread: 0 })?;
     }
-    Ok(())
+    for _ in 0..4 {
+        let thread = scenario.random.between(1, MAX_THREADS - 1);
+        scenario.ask(Call::End { thread })?;
+        scenario.ask(Call::Clone { thread: 0 })?;
+    }
+    scenario.ask(Call::Clone { thread: 0 })
 }

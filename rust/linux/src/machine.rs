@@ -106,11 +106,12 @@ impl Machine {
 }
 
 /// What no machine compares, with the reason.
-pub const LEFT_OUT: [&str; 10] = [
+pub const LEFT_OUT: [&str; 11] = [
     "EOPNOTSUPP (level 0): Landlock cannot be switched off in a running kernel",
     "EINVAL and E2BIG for what only a higher level knows: a kernel has one level",
     "EIO: the kernel's own state cannot be damaged from outside",
     "ESRCH: a thread that is not live makes no system call",
+    "EBUSY for the only live thread: in Linux it exits, and the process with it",
     "ENOSPC: a file system has no such table of entries, nor object numbers",
     "E2BIG for a 65th layer of a domain and ENOMEM for a 257th layer: the kernel stops at 16 layers to a domain, 128 for all threads",
     "layer_rules: the kernel does not show a domain's rules",

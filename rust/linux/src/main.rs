@@ -33,6 +33,8 @@ use tally::Tally;
 const USAGE: &str = "usage: linux [--seed N] [--seconds N] [--scenarios N]";
 const DEFAULT_SEED: u64 = 1;
 const DEFAULT_SCENARIOS: u64 = 8000;
+/// Domains that the first scenario builds and drops.
+const CHAINS: usize = 3000;
 /// A scenario that takes longer hangs.
 const SCENARIO_SECONDS: u32 = 60;
 
@@ -146,7 +148,11 @@ fn play(arguments: &Arguments, directory: &str) -> u8 {
         && arguments.time.is_none_or(|time| start.elapsed() < time)
     {
         let seed = arguments.seed.wrapping_add(tally.scenarios);
-        if let Err(scenario) = play_one(seed, &machine, &mut tally) {
+        let how = match tally.scenarios {
+            0 => |scenario: Scenario| scenario.play_chains(CHAINS),
+            _ => |scenario: Scenario| scenario.play(),
+        };
+        if let Err(scenario) = play_one(seed, how, &machine, &mut tally) {
             println!("{scenario}\n");
             status = EXIT_UNKNOWN;
             break;
@@ -158,11 +164,16 @@ fn play(arguments: &Arguments, directory: &str) -> u8 {
 }
 
 /// Plays a scenario and removes its tree; an unknown difference in words.
-fn play_one(seed: u64, machine: &Machine, tally: &mut Tally) -> Result<(), String> {
+fn play_one(
+    seed: u64,
+    how: fn(Scenario) -> Result<(), Stop>,
+    machine: &Machine,
+    tally: &mut Tally,
+) -> Result<(), String> {
     sys::alarm(SCENARIO_SECONDS);
     tally.scenarios += 1;
     let root = format!("s{}", tally.scenarios);
-    let ending = Scenario::new(seed, &root, machine, tally).play();
+    let ending = how(Scenario::new(seed, &root, machine, tally));
     fs::remove_dir_all(&root).unwrap_or_else(|error| panic!("{root}: {error}"));
     match ending {
         Ok(()) => Ok(()),

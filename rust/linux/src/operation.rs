@@ -66,6 +66,7 @@ pub enum Operation {
         on: bool,
     },
     StartThread,
+    ExitThread,
     CreateRuleset {
         attr: Vec<u8>,
         flags: u32,
@@ -156,8 +157,8 @@ impl Operation {
             Operation::Tcp { port, rights } => use_port(*port, *rights),
             Operation::SetNoNewPrivs => sys::set_no_new_privs(),
             Operation::SetAdmin { on } => sys::set_admin(*on),
-            // Starting it is the part of whoever holds the threads.
-            Operation::StartThread => 0,
+            // These are the part of whoever holds the threads.
+            Operation::StartThread | Operation::ExitThread => 0,
             Operation::CreateRuleset {
                 attr,
                 flags,

@@ -68,6 +68,13 @@ impl<'a> Scenario<'a> {
         self.compare_trees()
     }
 
+    /// Plays the one that drops many layers.
+    pub fn play_chains(mut self, times: usize) -> Result<(), Stop> {
+        self.align_marks()?;
+        limits::drop_chains(&mut self, times)?;
+        self.compare_trees()
+    }
+
     /// Gives thread 0 the marks that a new thread of this program has.
     fn align_marks(&mut self) -> Result<(), Stop> {
         if self.machine.admin {

@@ -72,6 +72,7 @@ calls! {
     /// Reads where a layer's rules stand into a report of so many cells.
     LayerRules "layer_rules" { layer, report } => model.layer_rules(layer).map(|_| 0);
     Clone "clone" { thread } => model.clone_thread(thread);
+    End "end" { thread } => model.end_thread(thread);
     SetNoNewPrivs "set_no_new_privs" { thread } => model.set_no_new_privs(thread);
     /// Sets the admin mark, or clears it where `on` is 0.
     SetAdmin "set_admin" { thread, on } => model.set_admin(thread, on != 0);

@@ -1,8 +1,8 @@
 //! Random damage to the cells of sound tables.
 
 use crate::random::Random;
-use crate::state::{Model, MAX_DOMAIN, MAX_RULES};
-use crate::tables::{Table, Tables, RULESET_HEAD, RULE_WIDTH};
+use crate::state::{Model, MAX_LAYERS, MAX_RULES, POOL_PLACES};
+use crate::tables::{Table, Tables, HOLDERS, RULESET_HEAD, RULE_WIDTH};
 
 /// A change of one cell.
 #[derive(Clone, Copy, PartialEq, Eq, Debug)]
@@ -14,15 +14,18 @@ pub struct Poke {
 
 /// Changes of a few cells, mostly of cells in use.
 pub fn pokes(model: &Model, tables: &Tables, random: &mut Random) -> Vec<Poke> {
-    let mut pokes = match random.below(12) {
+    let mut pokes = match random.below(18) {
         0 => swap_rows(tables, random),
         1 => copy_row(model, tables, random),
         2 | 3 => vec![copy_key(model, tables, random)],
         4 => vec![any_cell(tables, random)],
         5 | 6 => vec![renamed_cell(model, tables, random)],
+        7..=9 => moved_hold(model, tables, random),
+        10 => unheld_layer(model, tables, random),
+        11 => gap(model, tables, random),
         _ => vec![cell_in_use(model, tables, random)],
     };
-    while random.chance(15) {
+    while random.chance(10) {
         pokes.push(cell_in_use(model, tables, random));
     }
     pokes
@@ -43,8 +46,8 @@ fn row_in_use(table: Table, model: &Model, random: &mut Random) -> usize {
         Table::System => vec![0],
         Table::Entries => model.entries.keys().copied().collect(),
         Table::Rulesets => model.rulesets.keys().copied().collect(),
-        Table::Layers => (0..model.layers.len() as u64).collect(),
-        Table::Pool => (0..model.pool_used as u64).collect(),
+        Table::Layers => model.layers.keys().map(|number| *number as u64).collect(),
+        Table::Pool => (0..model.pool_used() as u64).collect(),
         Table::Threads => model.threads.keys().copied().collect(),
     };
     let row = random.pick_some(&numbers).unwrap_or(0);
@@ -94,9 +97,10 @@ fn changed(model: &Model, tables: &Tables, table: Table, cell: usize, random: &m
 }
 
 /// A cell that names something, so that it names another thing of the same sort: a parent that is
-/// below, a layer that is too deep, a port out of range, rights that a file doesn't have.
+/// below, a mask of nothing, another count of holders, a port out of range, rights that a file
+/// doesn't have.
 fn renamed_cell(model: &Model, tables: &Tables, random: &mut Random) -> Poke {
-    let (table, row, column, value) = match random.below(4) {
+    let (table, row, column, value) = match random.below(5) {
         0 => {
             let entries = model.entries.iter();
             let directories = entries.filter(|(_, entry)| entry.kind.is_directory());
@@ -105,10 +109,16 @@ fn renamed_cell(model: &Model, tables: &Tables, random: &mut Random) -> Poke {
             (Table::Entries, row, 1, random.pick(&numbers))
         }
         1 => {
-            let row = row_in_use(Table::Threads, model, random);
-            (Table::Threads, row, 1, deep_layer(model, random))
+            let row = row_in_use(Table::Layers, model, random);
+            let there = tables.row(Table::Layers, row)[HOLDERS];
+            let value = random.pick(&[0, there + 1, there.saturating_sub(1)]);
+            (Table::Layers, row, HOLDERS, value)
         }
         2 => {
+            let row = row_in_use(Table::Layers, model, random);
+            (Table::Layers, row, random.between(1, 3) as usize, 0)
+        }
+        3 => {
             let row = rule_in_use(2, model, tables, random);
             (Table::Pool, row, 1, random.between(65_535, 65_536))
         }
@@ -122,25 +132,83 @@ fn renamed_cell(model: &Model, tables: &Tables, random: &mut Random) -> Poke {
     Poke { table, cell, value }
 }
 
-/// A layer with too many below it, where there is one, or one of the last: its number plus 1, or 0
-/// for none.
-fn deep_layer(model: &Model, random: &mut Random) -> u64 {
-    let mut depths: Vec<usize> = Vec::new();
-    for layer in &model.layers {
-        let below = layer.parent.map_or(0, |parent| depths[parent]);
-        depths.push(below + 1);
+/// Another layer for a thread or a layer to hold, and the counts of both made true: perhaps one
+/// above itself, one that is too deep, or none.
+fn moved_hold(model: &Model, tables: &Tables, random: &mut Random) -> Vec<Poke> {
+    let (table, column) = random.pick(&[(Table::Threads, 1), (Table::Layers, 0)]);
+    let row = row_in_use(table, model, random);
+    let cell = table.width() * row + column;
+    let layers: Vec<usize> = model.layers.keys().copied().collect();
+    let held = random.pick_some(&layers).filter(|_| random.chance(90));
+    let value = held.map_or(0, |layer| layer as u64 + 1);
+    let there = tables.of(table)[cell];
+    if value == there {
+        return Vec::new();
     }
-    let layers = (1..).zip(depths);
-    let too_deep = layers.filter(|(_, depth)| *depth > MAX_DOMAIN);
-    let too_deep: Vec<u64> = too_deep.map(|(number, _)| number).collect();
-    let all = model.layers.len() as u64;
-    let last = all - random.below(4).min(all);
-    random.pick_some(&too_deep).unwrap_or(last)
+    let mut pokes = vec![Poke { table, cell, value }];
+    pokes.extend(counted(tables, there, |count| count - 1));
+    pokes.extend(counted(tables, value, |count| count + 1));
+    pokes
+}
+
+/// A change of the count of the layer that a cell names, if it names one.
+fn counted(tables: &Tables, named: u64, change: fn(u64) -> u64) -> Option<Poke> {
+    let row = (named as usize).checked_sub(1)?;
+    Some(Poke {
+        table: Table::Layers,
+        cell: Table::Layers.width() * row + HOLDERS,
+        value: change(tables.row(Table::Layers, row)[HOLDERS]),
+    })
+}
+
+/// A record that is counted and used as a layer's, but that nobody reaches.
+fn unheld_layer(model: &Model, tables: &Tables, random: &mut Random) -> Vec<Poke> {
+    let free = (0..MAX_LAYERS).filter(|number| !model.layers.contains_key(number));
+    let free: Vec<usize> = free.collect();
+    let Some(number) = random.pick_some(&free) else {
+        return Vec::new();
+    };
+    let table = Table::Layers;
+    let first = table.width() * number;
+    let poke = |table, cell, value| Poke { table, cell, value };
+    vec![
+        poke(table, first + 1, random.between(1, 8)),
+        poke(table, first + HOLDERS, 1),
+        poke(Table::System, 2, tables.of(Table::System)[2] + 1),
+    ]
+}
+
+/// A place of the used pool that belongs to no layer, before a run or behind all.
+fn gap(model: &Model, tables: &Tables, random: &mut Random) -> Vec<Poke> {
+    let used = model.pool_used();
+    if used == POOL_PLACES {
+        return Vec::new();
+    }
+    let places = model.places();
+    let run = random.pick_some(&model.runs).filter(|_| random.chance(80));
+    let from = run.map_or(used, |number| places[number]);
+    let poke = |table, cell, value| Poke { table, cell, value };
+    let mut pokes = vec![poke(Table::System, 3, used as u64 + 1)];
+    for place in from..used {
+        let cells = tables.row(Table::Pool, place).iter().enumerate();
+        let to = RULE_WIDTH * (place + 1);
+        pokes.extend(cells.map(|(column, value)| poke(Table::Pool, to + column, *value)));
+    }
+    if random.chance(50) {
+        let cells = RULE_WIDTH * from..RULE_WIDTH * (from + 1);
+        pokes.extend(cells.map(|cell| poke(Table::Pool, cell, 0)));
+    }
+    let moved = model.runs.iter().filter(|number| places[**number] >= from);
+    pokes.extend(moved.map(|number| {
+        let cell = Table::Layers.width() * number + 4;
+        poke(Table::Layers, cell, places[*number] as u64 + 1)
+    }));
+    pokes
 }
 
 /// A pool place with a rule of a type, if there is one.
 fn rule_in_use(sort: u64, model: &Model, tables: &Tables, random: &mut Random) -> usize {
-    let places = 0..model.pool_used;
+    let places = 0..model.pool_used();
     let fit = places.filter(|place| tables.row(Table::Pool, *place)[0] == sort);
     let fit: Vec<usize> = fit.collect();
     random.pick_some(&fit).unwrap_or(0)

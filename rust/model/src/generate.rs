@@ -36,7 +36,7 @@ pub fn every_call(model: &Model, random: &mut Random) -> Vec<Call> {
 type Make = fn(&mut Choose) -> Call;
 
 /// The calls, each with the end of its share of a thousand.
-const SORTS: [(u64, Make); 17] = [
+const SORTS: [(u64, Make); 18] = [
     (4, |choose| choose.fresh()),
     (80, |choose| choose.create_ruleset()),
     (110, |choose| choose.close_ruleset()),
@@ -44,10 +44,11 @@ const SORTS: [(u64, Make); 17] = [
     (290, |choose| choose.add_port_rule()),
     (370, |choose| choose.restrict()),
     (400, |choose| choose.layer_rules()),
-    (425, |choose| choose.clone_thread()),
-    (440, |choose| choose.set_no_new_privs()),
-    (465, |choose| choose.set_admin()),
-    (565, |choose| choose.access()),
+    (435, |choose| choose.clone_thread()),
+    (470, |choose| choose.end_thread()),
+    (480, |choose| choose.set_no_new_privs()),
+    (500, |choose| choose.set_admin()),
+    (570, |choose| choose.access()),
     (615, |choose| choose.port()),
     (695, |choose| choose.create()),
     (745, |choose| choose.remove()),
@@ -198,10 +199,10 @@ impl Choose<'_> {
     }
 
     fn layer_rules(&mut self) -> Call {
-        let layer = if self.random.chance(75) {
-            self.random.below(self.model.layers.len() as u64 + 1)
-        } else {
-            self.random.edge()
+        let in_use: Vec<u64> = self.model.layers.keys().map(|n| *n as u64).collect();
+        let layer = match self.random.pick_some(&in_use) {
+            Some(layer) if self.random.chance(75) => layer + self.random.below(6) / 5,
+            _ => self.random.edge(),
         };
         let report = self.random.pick(&[0, 1, 1, 2, 2, 2, 3, 3, 9]);
         Call::LayerRules { layer, report }
@@ -210,6 +211,11 @@ impl Choose<'_> {
     fn clone_thread(&mut self) -> Call {
         let thread = self.thread();
         Call::Clone { thread }
+    }
+
+    fn end_thread(&mut self) -> Call {
+        let thread = self.thread();
+        Call::End { thread }
     }
 
     fn set_no_new_privs(&mut self) -> Call {
@@ -450,7 +456,7 @@ impl Choose<'_> {
 
     /// A port of a rule of some layer or ruleset, a small one, or one at an edge.
     fn port_number(&mut self) -> u64 {
-        let layers = self.model.layers.iter().map(|layer| &layer.rules);
+        let layers = self.model.layers.values().map(|layer| &layer.rules);
         let rulesets = self.model.rulesets.values().map(|ruleset| &ruleset.rules);
         let keys = layers.chain(rulesets).flat_map(|rules| rules.iter());
         let ports: Vec<u64> = keys

@@ -26,7 +26,7 @@ impl Model {
         }
         let mask = known_mask(mask, Rights::NETWORK)?;
         let denied = self.domain(youngest).into_iter().any(|number| {
-            let layer = &self.layers[number];
+            let layer = &self.layers[&number];
             let granted = layer.rules.granted(Key::Port(port));
             layer.masks.net.without(granted).meets(mask)
         });
@@ -53,7 +53,7 @@ impl Model {
     /// The rights that some layer of a domain denies at an entry.
     pub fn denied_by_domain(&self, youngest: Option<usize>, entry: u64) -> Rights {
         let domain = self.domain(youngest).into_iter();
-        let denied = domain.map(|number| self.denied(&self.layers[number], entry));
+        let denied = domain.map(|number| self.denied(&self.layers[&number], entry));
         denied.fold(Rights::NONE, Rights::join)
     }
 
@@ -62,7 +62,7 @@ impl Model {
     pub fn contained(&self, youngest: Option<usize>, moved: u64, from: u64, to: u64) -> bool {
         let moved = self.entries[&moved];
         self.domain(youngest).into_iter().all(|number| {
-            let layer = &self.layers[number];
+            let layer = &self.layers[&number];
             let own = layer.rules.granted(Key::Object(moved.object));
             self.denied(layer, from)
                 .common(moved.kind.rights())
@@ -85,11 +85,11 @@ impl Model {
     }
 
     fn handle_refer(&mut self, domain: Vec<usize>) {
-        let has_fs = |number: &usize| !self.layers[*number].masks.fs.is_empty();
+        let has_fs = |number: &usize| !self.layers[number].masks.fs.is_empty();
         if domain.iter().any(has_fs) {
-            for number in domain {
-                let fs = &mut self.layers[number].masks.fs;
-                *fs = fs.join(Rights::REFER);
+            let layers = self.layers.iter_mut();
+            for (_, layer) in layers.filter(|(number, _)| domain.contains(number)) {
+                layer.masks.fs = layer.masks.fs.join(Rights::REFER);
             }
         }
     }

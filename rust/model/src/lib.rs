@@ -3,8 +3,8 @@
 //!
 //! The model is [`state`] with the calls in [`rulesets`], [`threads`], [`judge`] and [`tree`];
 //! [`tables`] and [`sound`] convert between it and cells. The comparison is [`compare`], fed by
-//! [`start`], [`generate`], [`damage`], [`odd`] and [`attributes`]; a difference is made short by
-//! [`shrink`] and printed by [`scenario`].
+//! [`start`], [`generate`], [`damage`], [`odd`] and [`attributes`], and by [`long_run`] with very
+//! many calls on the same tables; a difference is made short by [`shrink`] and printed by [`scenario`].
 
 pub mod attributes;
 pub mod call;
@@ -12,6 +12,7 @@ pub mod compare;
 pub mod damage;
 pub mod generate;
 pub mod judge;
+pub mod long_run;
 pub mod odd;
 #[cfg(feature = "core")]
 pub mod proved;

@@ -1,6 +1,7 @@
 //! Compares the proved core with the model.
 
 use model::compare::{compare, sweep, Options};
+use model::long_run::long_run;
 use model::proved::Core;
 use model::scenario::scenario;
 use model::shrink::shrink;
@@ -10,14 +11,17 @@ use std::process::ExitCode;
 use std::time::Instant;
 
 const HELP: &str = "\
-usage: model compare [--seed N] [--calls N] [--seconds N]
+usage: model compare [--seed N] [--calls N] [--seconds N] [--long N]
 
 Drives the proved core and the model through attributes of every length and through random lists of
 calls, from random tables, sound and damaged, and compares the reply and every cell after every call.
+Then threads of the same tables are cloned, restricted and ended very often; there the replies are
+compared after every call and the cells after every 100.
 
   --seed N     the seed of the random numbers (default 1)
   --calls N    the calls to make in random lists (default 1000000)
-  --seconds N  stop after so many seconds; without --calls, only then
+  --seconds N  stop the lists after so many seconds; without --calls, only then
+  --long N     the calls on the same tables (default 1000000)
 
 Without a difference the answers are counted by call and the exit code is 0. A difference is printed
 as a short scenario file, with exit code 1. Wrong arguments give exit code 2.
@@ -33,7 +37,7 @@ fn main() -> ExitCode {
         return ExitCode::SUCCESS;
     }
     match options(&arguments) {
-        Some(options) => run(&options),
+        Some((options, long)) => run(&options, long),
         None => {
             eprint!("{HELP}");
             ExitCode::from(2)
@@ -41,8 +45,8 @@ fn main() -> ExitCode {
     }
 }
 
-fn options(arguments: &[String]) -> Option<Options> {
-    let (mut seed, mut calls, mut seconds) = (1, None, None);
+fn options(arguments: &[String]) -> Option<(Options, u64)> {
+    let (mut seed, mut calls, mut seconds, mut long) = (1, None, None, CALLS);
     let (command, pairs) = arguments.split_first()?;
     if command != "compare" || pairs.len() % 2 != 0 {
         return None;
@@ -53,23 +57,26 @@ fn options(arguments: &[String]) -> Option<Options> {
             "--seed" => seed = value,
             "--calls" => calls = Some(value),
             "--seconds" => seconds = Some(value),
+            "--long" => long = value,
             _ => return None,
         }
     }
     let all = if seconds.is_some() { u64::MAX } else { CALLS };
-    Some(Options {
+    let options = Options {
         seed,
         calls: calls.unwrap_or(all),
         seconds,
-    })
+    };
+    Some((options, long))
 }
 
-fn run(options: &Options) -> ExitCode {
+fn run(options: &Options, long: u64) -> ExitCode {
     assert_eq!(skeinrabbit_sys::SIZES, Table::ALL.map(Table::length));
     let begin = Instant::now();
     let mut tally = Tally::default();
     let different = sweep(&mut Core, options.seed, &mut tally)
-        .or_else(|| compare(&mut Core, options, &mut tally));
+        .or_else(|| compare(&mut Core, options, &mut tally))
+        .or_else(|| long_run(&mut Core, options.seed, long, &mut tally));
     let seconds = begin.elapsed().as_secs_f64();
     eprintln!("{} calls in {seconds:.1} seconds", tally.calls);
     let Some(case) = different else {

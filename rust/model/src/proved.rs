@@ -88,6 +88,7 @@ fn core_answer(tables: &mut Cells, call: &Call, report: &mut [u64]) -> u64 {
         AddPortRule add_port_rule(ruleset, port, rights, flags);
         Restrict restrict(thread, ruleset, flags);
         Clone clone(thread);
+        End end(thread);
         SetNoNewPrivs set_no_new_privs(thread);
         SetAdmin set_admin(thread, on);
         Create create(thread, directory, kind);

@@ -103,6 +103,8 @@ refusals! {
     PoolFull ENOMEM;
     LayerNotInUse EBADF;
     NoFreeThread EAGAIN;
+    /// The only live thread can't end.
+    OnlyThread EBUSY;
     EntryNotLive ENOENT;
     EmptyMask EINVAL;
     AccessDenied EACCES;

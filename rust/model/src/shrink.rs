@@ -26,7 +26,7 @@ pub fn shrink<B: Broker>(broker: &mut B, case: Case) -> Option<(Case, Difference
         | shrinker.drop_pokes()
         | shrinker.simplify_calls()
         | shrinker.drop_parts()
-        | shrinker.simplify_counters()
+        | shrinker.simplify_counter()
     {}
     Some((shrinker.case, shrinker.difference))
 }
@@ -167,14 +167,11 @@ impl<B: Broker> Shrinker<'_, B> {
         )
     }
 
-    /// Packs the pool and lowers the object counter of the start.
-    fn simplify_counters(&mut self) -> bool {
-        let mut packed = self.case.clone();
-        pack_pool(&mut packed);
-        let better = self.differs(packed);
+    /// Lowers the object counter of the start.
+    fn simplify_counter(&mut self) -> bool {
         let mut lowered = self.case.clone();
         lowered.start.next_object = lowest_counter(&lowered.start);
-        self.differs(lowered) || better
+        self.differs(lowered)
     }
 }
 
@@ -228,13 +225,11 @@ enum Part {
     RulesetRule(u64, Key),
     Layer(usize),
     LayerRule(usize, Key),
-    Stray(usize),
     Thread(u64),
 }
 
 fn parts(model: &Model) -> Vec<Part> {
     let mut parts: Vec<Part> = Vec::new();
-    parts.extend(model.strays.keys().map(|place| Part::Stray(*place)));
     let fresh = (&0, &Thread::default());
     let threads = model.threads.iter().filter(|thread| *thread != fresh);
     parts.extend(threads.map(|(number, _)| Part::Thread(*number)));
@@ -243,10 +238,10 @@ fn parts(model: &Model) -> Vec<Part> {
         let keys = ruleset.rules.iter().map(|(key, _)| key);
         parts.extend(keys.map(|key| Part::RulesetRule(*number, key)));
     }
-    for (number, layer) in model.layers.iter().enumerate() {
-        parts.push(Part::Layer(number));
+    for (number, layer) in &model.layers {
+        parts.push(Part::Layer(*number));
         let keys = layer.rules.iter().map(|(key, _)| key);
-        parts.extend(keys.map(|key| Part::LayerRule(number, key)));
+        parts.extend(keys.map(|key| Part::LayerRule(*number, key)));
     }
     let entries = model.entries.keys().filter(|number| **number != ROOT);
     parts.extend(entries.map(|number| Part::Entry(*number)));
@@ -262,19 +257,9 @@ fn drop_part(case: &mut Case, part: &Part) {
             model.rulesets.remove(&number);
         }
         Part::RulesetRule(number, key) => drop_ruleset_rule(case, number, key),
-        Part::Layer(number) => {
-            drop_layer(model, number);
-            let width = Table::Layers.width();
-            let after = width * (number + 1)..Table::Layers.length();
-            move_pokes(case, Table::Layers, after, width);
-        }
+        Part::Layer(number) => drop_layer(case, number),
         Part::LayerRule(number, key) => drop_layer_rule(case, number, key),
-        Part::Stray(place) => {
-            model.strays.remove(&place);
-        }
-        Part::Thread(number) => {
-            model.threads.remove(&number);
-        }
+        Part::Thread(number) => drop_thread(case, number),
     }
 }
 
@@ -299,15 +284,17 @@ fn drop_ruleset_rule(case: &mut Case, number: u64, key: Key) {
     }
 }
 
+/// Takes a rule out of a layer; those behind it in the pool move down.
 fn drop_layer_rule(case: &mut Case, number: usize, key: Key) {
-    let layer = &mut case.start.layers[number];
-    let Some(place) = layer.rules.remove(key) else {
+    let first = case.start.places()[number];
+    let layer = case.start.layers.get_mut(&number);
+    let Some(place) = layer.and_then(|layer| layer.rules.remove(key)) else {
         return;
     };
-    let after = 3 * (layer.place + place + 1)..3 * (layer.place + layer.rules.len() + 1);
-    if layer.rules.is_empty() {
-        layer.place = 0;
+    if case.start.layers[&number].rules.is_empty() {
+        case.start.runs.retain(|other| *other != number);
     }
+    let after = 3 * (first + place + 1)..Table::Pool.length();
     move_pokes(case, Table::Pool, after, 3);
 }
 
@@ -323,43 +310,43 @@ fn drop_entry(model: &mut Model, number: u64) {
     }
 }
 
-/// Takes a layer out of all domains; those after it get the numbers before theirs.
-fn drop_layer(model: &mut Model, number: usize) {
-    let dropped = model.layers.remove(number);
-    let moved = |layer: Option<usize>| match layer {
-        Some(layer) if layer == number => dropped.parent,
-        Some(layer) if layer > number => Some(layer - 1),
-        other => other,
+/// Takes a layer out of all domains.
+fn drop_layer(case: &mut Case, number: usize) {
+    let Some(layer) = case.start.layers.get(&number) else {
+        return;
     };
-    for layer in &mut model.layers {
-        layer.parent = moved(layer.parent);
+    let parent = layer.parent;
+    let keys: Vec<Key> = layer.rules.iter().map(|(key, _)| key).collect();
+    for key in keys {
+        drop_layer_rule(case, number, key);
     }
-    for thread in model.threads.values_mut() {
-        thread.youngest = moved(thread.youngest);
+    case.start.layers.remove(&number);
+    let layers = case
+        .start
+        .layers
+        .values_mut()
+        .map(|layer| &mut layer.parent);
+    let threads = case.start.threads.values_mut();
+    for held in layers.chain(threads.map(|thread| &mut thread.youngest)) {
+        if *held == Some(number) {
+            *held = parent;
+        }
     }
 }
 
-/// Closes the gaps between the layers' rules in the pool.
-fn pack_pool(case: &mut Case) {
-    case.start.strays.clear();
-    case.start.pool_used = 0;
-    let mut order: Vec<usize> = (0..case.start.layers.len()).collect();
-    order.sort_by_key(|number| case.start.layers[*number].place);
-    for number in order {
-        let layer = &mut case.start.layers[number];
-        let (place, count) = (layer.place, layer.rules.len());
-        if count > 0 {
-            layer.place = case.start.pool_used;
-            case.start.pool_used += count;
-            let by = 3 * (place - layer.place);
-            move_pokes(case, Table::Pool, 3 * place..3 * (place + count), by);
-        }
+/// Takes a thread out, and the layers that no other one reaches.
+fn drop_thread(case: &mut Case, number: u64) {
+    case.start.threads.remove(&number);
+    let reached = case.start.reached();
+    let layers: Vec<usize> = case.start.layers.keys().copied().collect();
+    for layer in layers.into_iter().filter(|layer| !reached.contains(layer)) {
+        drop_layer(case, layer);
     }
 }
 
 /// The least object counter that all entries and rules lie below.
 fn lowest_counter(model: &Model) -> u64 {
-    let layers = model.layers.iter().map(|layer| &layer.rules);
+    let layers = model.layers.values().map(|layer| &layer.rules);
     let rules = layers.chain(model.rulesets.values().map(|ruleset| &ruleset.rules));
     let keys = rules.flat_map(|rules| rules.iter()).map(|(key, _)| key);
     let ruled = keys.filter_map(|key| match key {

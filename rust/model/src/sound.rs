@@ -5,7 +5,7 @@ use crate::state::{
     Entry, Key, Kind, Layer, Model, Rules, Ruleset, Thread, LAST_LEVEL, MAX_DOMAIN, MAX_LAYERS,
     MAX_PORT, MAX_RULES, OBJECTS_END, POOL_PLACES, ROOT,
 };
-use crate::tables::{Table, Tables, RULESET_HEAD, RULE_WIDTH};
+use crate::tables::{Table, Tables, HOLDERS, RULESET_HEAD, RULE_WIDTH};
 use std::collections::BTreeMap;
 
 macro_rules! clauses {
@@ -26,7 +26,6 @@ clauses! {
     Lengths
     Level
     ObjectCounter
-    LayerCounter
     PoolCounter
     Root
     Kind
@@ -50,15 +49,18 @@ clauses! {
     RuleTwice
     RuleNotForFile
     FreeLayer
-    LayerParent
+    LayersUsed
     EmptyRunPlace
     RunNotInPool
     RunsOverlap
+    PoolNotFilled
     FreePool
     ThreadLive
     FreeThread
-    YoungestLayer
     Marks
+    LayerParent
+    YoungestLayer
+    Holders
     DomainTooDeep
 }
 
@@ -81,10 +83,8 @@ pub fn check(tables: &Tables) -> Checked<Model> {
         (1..=OBJECTS_END).contains(&next_object),
         Unsound::ObjectCounter,
     )?;
-    ensure(layers_used <= MAX_LAYERS as u64, Unsound::LayerCounter)?;
     ensure(pool_used <= POOL_PLACES as u64, Unsound::PoolCounter)?;
     let mut model = Model {
-        pool_used: pool_used as usize,
         next_object,
         ..Model::fresh(level)
     };
@@ -96,8 +96,15 @@ pub fn check(tables: &Tables) -> Checked<Model> {
         known: Masks::known(level),
     };
     model.rulesets = rulesets(tables, &rule_check)?;
-    layers(tables, layers_used as usize, &rule_check, &mut model)?;
-    model.threads = threads(tables, &model)?;
+    let records = records_in_use(tables)?;
+    ensure(layers_used == records.len() as u64, Unsound::LayersUsed)?;
+    model.runs = runs(tables, &records, pool_used as usize)?;
+    for number in records {
+        let layer = layer(tables, number, &rule_check)?;
+        model.layers.insert(number, layer);
+    }
+    model.threads = threads(tables)?;
+    domains_sound(tables, &model)?;
     Ok(model)
 }
 
@@ -243,60 +250,76 @@ fn rulesets(tables: &Tables, check: &RuleCheck) -> Checked<BTreeMap<u64, Ruleset
     Ok(rulesets)
 }
 
-/// Reads the layers and the pool into the model.
-fn layers(tables: &Tables, used: usize, check: &RuleCheck, model: &mut Model) -> Checked<()> {
-    let mut taken = vec![false; model.pool_used];
-    for number in 0..used {
+/// The layer records that have holders; the others are zero.
+fn records_in_use(tables: &Tables) -> Checked<Vec<usize>> {
+    let mut records = Vec::new();
+    for number in 0..MAX_LAYERS {
         let row = tables.row(Table::Layers, number);
-        let masks = check.masks(&row[1..4])?;
-        ensure(!masks.is_empty(), Unsound::LayerHandlesNothing)?;
-        let place = run(row[4], row[5], &mut taken)?;
-        let cells = &tables.of(Table::Pool)[RULE_WIDTH * place..][..RULE_WIDTH * row[5] as usize];
-        model.layers.push(Layer {
-            parent: layer_below(row[0], number).ok_or(Unsound::LayerParent)?,
-            masks,
-            rules: check.rules(cells, &masks)?,
-            place,
-        });
-    }
-    let free = &tables.of(Table::Layers)[Table::Layers.width() * used..];
-    ensure(all_zero(free), Unsound::FreeLayer)?;
-    let free = &tables.of(Table::Pool)[RULE_WIDTH * model.pool_used..];
-    ensure(all_zero(free), Unsound::FreePool)?;
-    for place in (0..model.pool_used).filter(|place| !taken[*place]) {
-        let cells = cells_of(tables.row(Table::Pool, place));
-        if cells != [0; 3] {
-            model.strays.insert(place, cells);
+        if row[HOLDERS] == 0 {
+            ensure(all_zero(row), Unsound::FreeLayer)?;
+        } else {
+            records.push(number);
         }
     }
-    Ok(())
+    Ok(records)
 }
 
-/// Marks the pool places of a run as taken; answers its first place.
-fn run(place: u64, count: u64, taken: &mut [bool]) -> Checked<usize> {
-    ensure(count <= MAX_RULES as u64, Unsound::TooManyRules)?;
-    if count == 0 {
-        ensure(place == 0, Unsound::EmptyRunPlace)?;
-        return Ok(0);
+/// The records whose rules the used pool has, in its order: the runs lie in it side by side and
+/// leave no place out, and behind them all is zero.
+fn runs(tables: &Tables, records: &[usize], pool_used: usize) -> Checked<Vec<usize>> {
+    let mut runs = BTreeMap::new();
+    let mut filled = vec![false; pool_used];
+    for number in records {
+        let (first, count) = run(tables, *number);
+        ensure(count <= MAX_RULES as u64, Unsound::TooManyRules)?;
+        if count == 0 {
+            ensure(first == 0, Unsound::EmptyRunPlace)?;
+            continue;
+        }
+        let end = first.checked_add(count).ok_or(Unsound::RunNotInPool)?;
+        ensure(end <= pool_used as u64, Unsound::RunNotInPool)?;
+        for place in &mut filled[first as usize..end as usize] {
+            ensure(!*place, Unsound::RunsOverlap)?;
+            *place = true;
+        }
+        runs.insert(first, *number);
     }
-    let end = place.checked_add(count).ok_or(Unsound::RunNotInPool)?;
-    ensure(end <= taken.len() as u64, Unsound::RunNotInPool)?;
-    for place in &mut taken[place as usize..end as usize] {
-        ensure(!*place, Unsound::RunsOverlap)?;
-        *place = true;
-    }
-    Ok(place as usize)
+    ensure(filled.iter().all(|place| *place), Unsound::PoolNotFilled)?;
+    let free = &tables.of(Table::Pool)[RULE_WIDTH * pool_used..];
+    ensure(all_zero(free), Unsound::FreePool)?;
+    Ok(runs.into_values().collect())
 }
 
-/// The layer that a cell names, or none, if it has a number below the limit.
-fn layer_below(cell: u64, limit: usize) -> Option<Option<usize>> {
-    if cell > limit as u64 {
+/// The first pool place of a record's rules, and their number.
+fn run(tables: &Tables, number: usize) -> (u64, u64) {
+    let row = tables.row(Table::Layers, number);
+    (row[4], row[5])
+}
+
+/// A layer in use, whose rules lie in the pool.
+fn layer(tables: &Tables, number: usize, check: &RuleCheck) -> Checked<Layer> {
+    let row = tables.row(Table::Layers, number);
+    let masks = check.masks(&row[1..4])?;
+    ensure(!masks.is_empty(), Unsound::LayerHandlesNothing)?;
+    let (first, count) = run(tables, number);
+    let (start, length) = (RULE_WIDTH * first as usize, RULE_WIDTH * count as usize);
+    let cells = &tables.of(Table::Pool)[start..start + length];
+    Ok(Layer {
+        parent: layer_of(row[0]).ok_or(Unsound::LayerParent)?,
+        masks,
+        rules: check.rules(cells, &masks)?,
+    })
+}
+
+/// The layer that a cell names, or none, if there is such a record.
+fn layer_of(cell: u64) -> Option<Option<usize>> {
+    if cell > MAX_LAYERS as u64 {
         return None;
     }
     Some((cell as usize).checked_sub(1))
 }
 
-fn threads(tables: &Tables, model: &Model) -> Checked<BTreeMap<u64, Thread>> {
+fn threads(tables: &Tables) -> Checked<BTreeMap<u64, Thread>> {
     let mut threads = BTreeMap::new();
     for (number, row) in tables.of(Table::Threads).chunks_exact(4).enumerate() {
         let [live, youngest, no_new_privs, admin] = cells_of(row);
@@ -305,16 +328,37 @@ fn threads(tables: &Tables, model: &Model) -> Checked<BTreeMap<u64, Thread>> {
             continue;
         }
         ensure(live == 1, Unsound::ThreadLive)?;
-        let youngest = layer_below(youngest, model.layers.len()).ok_or(Unsound::YoungestLayer)?;
         ensure(no_new_privs <= 1 && admin <= 1, Unsound::Marks)?;
-        let domain = model.domain(youngest);
-        ensure(domain.len() <= MAX_DOMAIN, Unsound::DomainTooDeep)?;
         let thread = Thread {
-            youngest,
+            youngest: layer_of(youngest).ok_or(Unsound::YoungestLayer)?,
             no_new_privs: no_new_privs == 1,
             admin: admin == 1,
         };
         threads.insert(number as u64, thread);
     }
     Ok(threads)
+}
+
+/// Layers and threads name layers in use, the counts of holders are true, and climbing from any
+/// layer ends within the limit of a domain.
+fn domains_sound(tables: &Tables, model: &Model) -> Checked<()> {
+    let in_use = |layer: Option<usize>| layer.is_none_or(|layer| model.layers.contains_key(&layer));
+    let mut parents = model.layers.values().map(|layer| layer.parent);
+    ensure(parents.all(in_use), Unsound::LayerParent)?;
+    let mut youngest = model.threads.values().map(|thread| thread.youngest);
+    ensure(youngest.all(in_use), Unsound::YoungestLayer)?;
+    let holders = model.holders();
+    for number in model.layers.keys() {
+        let counted = tables.row(Table::Layers, *number)[HOLDERS];
+        ensure(counted == holders[*number], Unsound::Holders)?;
+    }
+    let mut layers = model.layers.keys();
+    let shallow = layers.all(|number| climbs(model, *number) <= MAX_DOMAIN);
+    ensure(shallow, Unsound::DomainTooDeep)
+}
+
+/// The layers of a climb from one, or one more than a domain may have.
+fn climbs(model: &Model, from: usize) -> usize {
+    let climb = std::iter::successors(Some(from), |layer| model.layers[layer].parent);
+    climb.take(MAX_DOMAIN + 1).count()
 }

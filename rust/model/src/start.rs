@@ -19,12 +19,13 @@ pub fn start(random: &mut Random) -> Model {
         return model;
     }
     grow_tree(&mut model, random);
+    let shape = shape(random);
+    start_threads(&mut model, shape, random);
     if level > 0 {
         open_rulesets(&mut model, random);
-        stack_layers(&mut model, random);
-        place_runs(&mut model, random);
+        let layers = stack_layers(&mut model, shape, random);
+        place_layers(&mut model, layers, random);
     }
-    start_threads(&mut model, random);
     model
 }
 
@@ -226,74 +227,145 @@ pub fn some_of(rights: Rights, random: &mut Random) -> Rights {
     }
 }
 
-/// Few layers, about as many as a domain has at most, or nearly all that there are.
-fn layer_count(random: &mut Random) -> usize {
-    let count = match random.below(20) {
-        0 | 1 => 0,
-        2..=13 => random.between(1, 5),
-        14..=16 => random.between(MAX_DOMAIN as u64 - 2, MAX_DOMAIN as u64 + 2),
-        _ => random.between(MAX_LAYERS as u64 - 6, MAX_LAYERS as u64),
-    };
-    count as usize
+/// How the domains of the threads grow.
+#[derive(Clone, Copy, PartialEq, Eq)]
+enum Shape {
+    None,
+    Few,
+    /// A domain with about as many layers as it may have.
+    Deep,
+    /// Nearly all records are in use.
+    Many,
+    /// Layers with so many rules that the pool is nearly full.
+    FullPool,
+    /// Layers that grant almost everything everywhere, so that moves between directories are decided
+    /// by the few rights that some directories or files get in addition, and by whether a layer
+    /// without a file system mask handles REFER.
+    Uneven,
 }
 
-fn stack_layers(model: &mut Model, random: &mut Random) {
-    if random.chance(30) {
-        return stack_uneven_layers(model, random);
+fn shape(random: &mut Random) -> Shape {
+    match random.below(20) {
+        0 | 1 => Shape::None,
+        2..=8 => Shape::Few,
+        9 | 10 => Shape::Deep,
+        11 | 12 => Shape::Many,
+        13 => Shape::FullPool,
+        _ => Shape::Uneven,
     }
+}
+
+/// Gives each thread a domain that grows from that of another one, or from none; answers the layers
+/// in the order in which they were made. All are reached.
+fn stack_layers(model: &mut Model, shape: Shape, random: &mut Random) -> Vec<Layer> {
     let entries: Vec<Entry> = model.entries.values().copied().collect();
     let most_rules = random.pick(&[0, 4, 8, MAX_RULES as u64]);
-    let chain = random.pick(&[20, 60, 97, 100]);
-    let mut total = 0;
-    for number in 0..layer_count(random) {
-        let parent = match number.checked_sub(1) {
-            Some(last) if random.chance(chain) => Some(last),
-            Some(_) if random.chance(80) => Some(random.below(number as u64) as usize),
-            _ => None,
-        };
-        let masks = masks(model.level, random);
-        let count = random
-            .between(0, most_rules)
-            .min(POOL_PLACES as u64 - total);
-        let rules = rules(&entries, model, &masks, count, random);
-        total += rules.len() as u64;
-        model.layers.push(Layer {
-            parent,
-            masks,
-            rules,
-            place: 0,
-        });
+    let threads: Vec<u64> = model.threads.keys().copied().collect();
+    let mut made: Vec<Layer> = Vec::new();
+    for (turn, thread) in threads.iter().enumerate() {
+        let mut youngest = below_new_ones(&made, shape, random);
+        let room = (MAX_DOMAIN - depth(&made, youngest)).min(MAX_LAYERS - made.len());
+        let left = threads.len() - turn;
+        for _ in 0..new_layers(shape, turn, left, made.len(), random).min(room) {
+            let used: usize = made.iter().map(|layer| layer.rules.len()).sum();
+            let free = POOL_PLACES - used;
+            let (masks, rules) = match shape {
+                Shape::Uneven => uneven(&entries, model.level, free, random),
+                Shape::FullPool if model.level >= 4 => ports(free, random),
+                _ => plain(&entries, model, most_rules.min(free as u64), random),
+            };
+            let parent = youngest;
+            youngest = Some(made.len());
+            made.push(Layer {
+                parent,
+                masks,
+                rules,
+            });
+        }
+        if let Some(thread) = model.threads.get_mut(thread) {
+            thread.youngest = youngest;
+        }
+    }
+    made
+}
+
+/// The layer that a thread's own ones stand on: none, the last one, or any.
+fn below_new_ones(made: &[Layer], shape: Shape, random: &mut Random) -> Option<usize> {
+    let alone = if shape == Shape::Many { 70 } else { 20 };
+    if made.is_empty() || random.chance(alone) {
+        return None;
+    }
+    let last = made.len() - 1;
+    if random.chance(60) {
+        Some(last)
+    } else {
+        Some(random.below(made.len() as u64) as usize)
     }
 }
 
-/// A chain of layers that grant almost everything everywhere, so that moves between directories are
-/// decided by the few rights that some directories or files get in addition, and by whether a layer
-/// without a file system mask handles REFER.
-fn stack_uneven_layers(model: &mut Model, random: &mut Random) {
-    let entries: Vec<Entry> = model.entries.values().copied().collect();
-    for number in 0..random.between(1, 3) as usize {
-        let masks = uneven_masks(model.level, random);
-        let fs = masks.fs;
-        let bits = [0, 1, 2, 3, 14, random.below(13)];
-        let uneven = Rights(1 << random.pick(&bits) | 1 << random.pick(&bits));
-        let mut rules = Rules::default();
-        let mut add = |entry: Entry, rights: Rights| {
-            let rights = rights.common(entry.kind.rights());
-            if !rights.is_empty() {
-                rules.add(Key::Object(entry.object), rights);
-            }
-        };
-        add(entries[0], fs.without(uneven));
-        for _ in 0..random.between(1, 8) {
-            add(random.pick(&entries), fs.common(uneven));
-        }
-        model.layers.push(Layer {
-            parent: number.checked_sub(1),
-            masks,
-            rules,
-            place: 0,
-        });
+/// The layers of a climb.
+fn depth(made: &[Layer], youngest: Option<usize>) -> usize {
+    std::iter::successors(youngest, |layer| made[*layer].parent).count()
+}
+
+/// How many layers a thread gets of its own, where so many threads have yet to get theirs.
+fn new_layers(shape: Shape, turn: usize, left: usize, made: usize, random: &mut Random) -> usize {
+    let deep = random.between(MAX_DOMAIN as u64 - 2, MAX_DOMAIN as u64) as usize;
+    let few = random.below(4) as usize;
+    match shape {
+        Shape::None => 0,
+        Shape::Few | Shape::Uneven => few.max(1 - turn.min(1)),
+        Shape::Deep if turn == 0 => deep,
+        Shape::Deep => random.pick(&[0, few, deep]),
+        Shape::Many => (MAX_LAYERS - few - made).div_ceil(left),
+        Shape::FullPool => 17 / (turn + 1) + few,
     }
+}
+
+/// Masks and rules of a layer with so many rules at most.
+fn plain(entries: &[Entry], model: &Model, most_rules: u64, random: &mut Random) -> (Masks, Rules) {
+    let masks = masks(model.level, random);
+    let count = random.between(0, most_rules);
+    let rules = rules(entries, model, &masks, count, random);
+    (masks, rules)
+}
+
+/// Masks and rules of a layer that grants almost everything.
+fn uneven(entries: &[Entry], level: u64, free: usize, random: &mut Random) -> (Masks, Rules) {
+    let masks = uneven_masks(level, random);
+    let fs = masks.fs;
+    let bits = [0, 1, 2, 3, 14, random.below(13)];
+    let uneven = Rights(1 << random.pick(&bits) | 1 << random.pick(&bits));
+    let mut rules = Rules::default();
+    let mut add = |entry: Entry, rights: Rights| {
+        let rights = rights.common(entry.kind.rights());
+        if !rights.is_empty() && rules.len() < free {
+            rules.add(Key::Object(entry.object), rights);
+        }
+    };
+    add(entries[0], fs.without(uneven));
+    for _ in 0..random.between(1, 8) {
+        add(random.pick(entries), fs.common(uneven));
+    }
+    (masks, rules)
+}
+
+/// Masks and rules of a layer with about as many rules, for ports, as it may have.
+fn ports(free: usize, random: &mut Random) -> (Masks, Rules) {
+    let net = Rights::NETWORK;
+    let count = random
+        .pick(&[MAX_RULES, MAX_RULES - 1, MAX_RULES - 3])
+        .min(free);
+    let first = random.below(100);
+    let mut rules = Rules::default();
+    for port in (first..).take(count) {
+        rules.add(Key::Port(port), Rights(random.between(1, net.0)));
+    }
+    let masks = Masks {
+        net,
+        ..Masks::default()
+    };
+    (masks, rules)
 }
 
 /// Masks of file system rights, mostly many and REFER among them; or of the network or scopes alone.
@@ -315,51 +387,33 @@ fn uneven_masks(level: u64, random: &mut Random) -> Masks {
     Masks { fs, ..none }
 }
 
-/// Gives the layers their places in the pool, in order or not, with gaps or without.
-fn place_runs(model: &mut Model, random: &mut Random) {
-    let mut order: Vec<usize> = (0..model.layers.len()).collect();
-    if random.chance(30) {
+/// Gives the layers records: the first ones, in order or not, or any, so that records between them
+/// are free and a parent may have a larger number; and their rules places in the pool, in order or
+/// not.
+fn place_layers(model: &mut Model, layers: Vec<Layer>, random: &mut Random) {
+    let mut records: Vec<usize> = (0..MAX_LAYERS).collect();
+    match random.below(3) {
+        0 => {}
+        1 => random.shuffle(&mut records[..layers.len()]),
+        _ => random.shuffle(&mut records),
+    }
+    let record = |layer: Option<usize>| layer.map(|layer| records[layer]);
+    for thread in model.threads.values_mut() {
+        thread.youngest = record(thread.youngest);
+    }
+    let mut order: Vec<(usize, Layer)> = layers.into_iter().enumerate().collect();
+    if random.chance(40) {
         random.shuffle(&mut order);
     }
-    let total: usize = model.layers.iter().map(|layer| layer.rules.len()).sum();
-    let mut spare = match random.below(10) {
-        0..=4 => 0,
-        5 | 6 => random.below((POOL_PLACES - total) as u64 + 1) as usize,
-        _ => (POOL_PLACES - total).saturating_sub(random.below(8) as usize),
-    };
-    let gaps = random.pick(&[0, 50]);
-    for number in order {
-        if random.chance(gaps) {
-            let gap = random.below(spare as u64 + 1) as usize;
-            spare -= gap;
-            add_strays(model, gap, random);
-        }
-        let layer = &mut model.layers[number];
-        if !layer.rules.is_empty() {
-            layer.place = model.pool_used;
-            model.pool_used += layer.rules.len();
-        }
-    }
-    add_strays(model, spare, random);
-}
-
-/// Takes the next places of the pool for nothing, whatever they hold.
-fn add_strays(model: &mut Model, count: usize, random: &mut Random) {
-    for _ in 0..count {
-        let cells = match random.below(3) {
-            0 => [0; 3],
-            1 => [random.below(4), random.below(4), random.below(4)],
-            _ => [random.edge(), random.edge(), random.number()],
-        };
-        if cells != [0; 3] {
-            model.strays.insert(model.pool_used, cells);
-        }
-        model.pool_used += 1;
+    for (number, layer) in order {
+        let parent = record(layer.parent);
+        model.add_layer(records[number], Layer { parent, ..layer });
     }
 }
 
-fn start_threads(model: &mut Model, random: &mut Random) {
+fn start_threads(model: &mut Model, shape: Shape, random: &mut Random) {
     let count = match random.below(5) {
+        _ if shape == Shape::Many => random.between(5, MAX_THREADS),
         0 => random.between(7, MAX_THREADS),
         1 => 1 - random.below(20) / 19,
         _ => random.between(1, 5),
@@ -370,24 +424,11 @@ fn start_threads(model: &mut Model, random: &mut Random) {
     }
     model.threads.clear();
     for number in numbers.into_iter().take(count as usize) {
-        let layer = match model.layers.len() as u64 {
-            0 => None,
-            layers if random.chance(60) => Some((layers - 1) as usize),
-            layers => (random.below(layers + 1) as usize).checked_sub(1),
-        };
-        let youngest = within_depth(model, layer);
         let thread = Thread {
-            youngest,
+            youngest: None,
             no_new_privs: random.chance(70),
             admin: random.chance(25),
         };
         model.threads.insert(number, thread);
     }
-}
-
-/// A layer, or the youngest above which a domain isn't too deep.
-fn within_depth(model: &Model, layer: Option<usize>) -> Option<usize> {
-    let domain = model.domain(layer);
-    let first = domain.len().saturating_sub(MAX_DOMAIN);
-    domain.get(first).copied()
 }

@@ -2,7 +2,7 @@
 
 use crate::refusal::{Answer, Refusal};
 use crate::rights::{Masks, Rights};
-use std::collections::BTreeMap;
+use std::collections::{BTreeMap, BTreeSet};
 
 pub const LAST_LEVEL: u64 = 6;
 pub const MAX_ENTRIES: u64 = 1024;
@@ -154,8 +154,6 @@ pub struct Layer {
     pub parent: Option<usize>,
     pub masks: Masks,
     pub rules: Rules,
-    /// The first place of its rules in the pool, 0 where it has none.
-    pub place: usize,
 }
 
 impl Layer {
@@ -178,17 +176,18 @@ pub struct Thread {
     pub admin: bool,
 }
 
-/// Sound tables: level, tree, rulesets, layers with their pool places, and threads.
+/// Sound tables: level, tree, rulesets, layers and threads. The layers are those that a live thread
+/// reaches; who holds one, and where its rules stand in the pool, is counted when it is asked.
 #[derive(Clone, PartialEq, Eq, Debug)]
 pub struct Model {
     pub level: u64,
     pub next_object: u64,
     pub entries: BTreeMap<u64, Entry>,
     pub rulesets: BTreeMap<u64, Ruleset>,
-    pub layers: Vec<Layer>,
-    pub pool_used: usize,
-    /// Contents of used pool places that belong to no layer, where not zero.
-    pub strays: BTreeMap<usize, [u64; 3]>,
+    /// The layers in use by record.
+    pub layers: BTreeMap<usize, Layer>,
+    /// The layers with rules, in the order of these in the pool.
+    pub runs: Vec<usize>,
     pub threads: BTreeMap<u64, Thread>,
 }
 
@@ -205,9 +204,8 @@ impl Model {
             next_object: 1,
             entries: BTreeMap::from([(ROOT, root)]),
             rulesets: BTreeMap::new(),
-            layers: Vec::new(),
-            pool_used: 0,
-            strays: BTreeMap::new(),
+            layers: BTreeMap::new(),
+            runs: Vec::new(),
             threads: BTreeMap::from([(0, Thread::default())]),
         }
     }
@@ -254,9 +252,64 @@ impl Model {
         let mut at = youngest;
         while let Some(layer) = at {
             domain.push(layer);
-            at = self.layers[layer].parent;
+            at = self.layers[&layer].parent;
         }
         domain
+    }
+
+    /// The layers of all live threads' domains.
+    pub fn reached(&self) -> BTreeSet<usize> {
+        let mut reached = BTreeSet::new();
+        for thread in self.threads.values() {
+            let mut at = thread.youngest;
+            while let Some(layer) = at.filter(|layer| reached.insert(*layer)) {
+                at = self.layers[&layer].parent;
+            }
+        }
+        reached
+    }
+
+    /// How many live threads and layers hold each record.
+    pub fn holders(&self) -> Vec<u64> {
+        let threads = self.threads.values().map(|thread| thread.youngest);
+        let layers = self.layers.values().map(|layer| layer.parent);
+        let mut holders = vec![0; MAX_LAYERS];
+        for held in threads.chain(layers).flatten() {
+            holders[held] += 1;
+        }
+        holders
+    }
+
+    /// The first pool place of each record's rules, 0 where it has none: the runs lie one behind the
+    /// other.
+    pub fn places(&self) -> Vec<usize> {
+        let mut places = vec![0; MAX_LAYERS];
+        let mut next = 0;
+        for number in &self.runs {
+            places[*number] = next;
+            next += self.layers[number].rules.len();
+        }
+        places
+    }
+
+    /// The pool places that the runs fill.
+    pub fn pool_used(&self) -> usize {
+        self.layers.values().map(|layer| layer.rules.len()).sum()
+    }
+
+    /// Takes a record for a layer; its rules stand behind those of all others.
+    pub fn add_layer(&mut self, number: usize, layer: Layer) {
+        if !layer.rules.is_empty() {
+            self.runs.push(number);
+        }
+        self.layers.insert(number, layer);
+    }
+
+    /// Gives back the layers that no live thread reaches.
+    pub fn give_back(&mut self) {
+        let reached = self.reached();
+        self.layers.retain(|number, _| reached.contains(number));
+        self.runs.retain(|number| reached.contains(number));
     }
 }
 

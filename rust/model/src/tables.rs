@@ -10,7 +10,9 @@ pub const RULE_WIDTH: usize = 3;
 /// The cells of a ruleset before its rules.
 pub const RULESET_HEAD: usize = 4;
 const RULESET_WIDTH: usize = RULESET_HEAD + RULE_WIDTH * MAX_RULES;
-const LAYER_WIDTH: usize = 6;
+const LAYER_WIDTH: usize = 7;
+/// The cell of a layer that counts its holders.
+pub const HOLDERS: usize = 6;
 
 /// The six tables.
 #[derive(Clone, Copy, PartialEq, Eq, PartialOrd, Ord, Debug)]
@@ -122,7 +124,7 @@ pub fn encode_into(model: &Model, tables: &mut Tables) {
         model.level,
         model.next_object,
         model.layers.len() as u64,
-        model.pool_used as u64,
+        model.pool_used() as u64,
     ]);
     for (number, entry) in &model.entries {
         let row = [entry.kind as u64, entry.parent, entry.object];
@@ -149,18 +151,18 @@ fn encode_rulesets(model: &Model, tables: &mut Tables) {
 }
 
 fn encode_layers(model: &Model, tables: &mut Tables) {
-    for (place, cells) in &model.strays {
-        tables.row_mut(Table::Pool, *place).copy_from_slice(cells);
-    }
-    for (number, layer) in model.layers.iter().enumerate() {
-        let row = tables.row_mut(Table::Layers, number);
+    let (holders, places) = (model.holders(), model.places());
+    for (number, layer) in &model.layers {
+        let place = places[*number];
+        let row = tables.row_mut(Table::Layers, *number);
         row[0] = after(layer.parent);
         row[1..4].copy_from_slice(&mask_cells(layer.masks));
-        row[4] = layer.place as u64;
+        row[4] = place as u64;
         row[5] = layer.rules.len() as u64;
+        row[HOLDERS] = holders[*number];
         encode_rules(
             &layer.rules,
-            &mut tables.of_mut(Table::Pool)[RULE_WIDTH * layer.place..],
+            &mut tables.of_mut(Table::Pool)[RULE_WIDTH * place..],
         );
     }
 }

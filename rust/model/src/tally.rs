@@ -12,7 +12,7 @@ use std::fmt;
 use Refusal::*;
 
 /// The refusals of each call, after the one for tables that aren't sound.
-const REFUSALS: [(&str, &[Refusal]); 17] = [
+const REFUSALS: [(&str, &[Refusal]); 18] = [
     ("fresh", &[WrongLength, UnknownLevel]),
     (
         "create_ruleset",
@@ -69,6 +69,7 @@ const REFUSALS: [(&str, &[Refusal]); 17] = [
     ),
     ("layer_rules", &[LayerNotInUse]),
     ("clone", &[ThreadNotLive, NoFreeThread]),
+    ("end", &[ThreadNotLive, OnlyThread]),
     ("set_no_new_privs", &[ThreadNotLive]),
     ("set_admin", &[ThreadNotLive]),
     (

@@ -1,4 +1,4 @@
-//! The calls on threads and their domains: restrict, layer rules, clone, marks.
+//! The calls on threads and their domains: restrict, layer rules, clone, end, marks.
 
 use crate::refusal::{Answer, Refusal};
 use crate::rulesets::no_flags;
@@ -21,26 +21,25 @@ impl Model {
         if self.layers.len() == MAX_LAYERS {
             return Err(Refusal::NoFreeLayer);
         }
-        let count = ruleset.rules.len();
-        if count > POOL_PLACES - self.pool_used {
+        let in_order = self.layers.keys().zip(0..);
+        let record = in_order.take_while(|(used, n)| *used == n).count();
+        if ruleset.rules.len() > POOL_PLACES - self.pool_used() {
             return Err(Refusal::PoolFull);
         }
-        self.layers.push(Layer {
+        let layer = Layer {
             parent: caller.youngest,
             masks: ruleset.masks,
-            place: if count == 0 { 0 } else { self.pool_used },
             rules: ruleset.rules,
-        });
-        self.pool_used += count;
-        let youngest = Some(self.layers.len() - 1);
-        self.change_thread(thread, |thread| thread.youngest = youngest)
+        };
+        self.add_layer(record, layer);
+        self.change_thread(thread, |thread| thread.youngest = Some(record))
     }
 
     /// Where a layer's rules stand in the pool: the first place and the number of rules.
     pub fn layer_rules(&self, layer: u64) -> Result<(usize, usize), Refusal> {
-        let layer = usize::try_from(layer).ok().and_then(|n| self.layers.get(n));
-        let layer = layer.ok_or(Refusal::LayerNotInUse)?;
-        Ok((layer.place, layer.rules.len()))
+        let number = usize::try_from(layer).map_err(|_| Refusal::LayerNotInUse)?;
+        let layer = self.layers.get(&number).ok_or(Refusal::LayerNotInUse)?;
+        Ok((self.places()[number], layer.rules.len()))
     }
 
     /// Clones a thread; the copy has its domain and marks.
@@ -49,6 +48,17 @@ impl Model {
         let number = lowest_free(&self.threads, MAX_THREADS).ok_or(Refusal::NoFreeThread)?;
         self.threads.insert(number, copy);
         Ok(number)
+    }
+
+    /// Ends a thread; layers that no other thread reaches are given back.
+    pub fn end_thread(&mut self, thread: u64) -> Answer {
+        self.thread(thread)?;
+        if self.threads.len() == 1 {
+            return Err(Refusal::OnlyThread);
+        }
+        self.threads.remove(&thread);
+        self.give_back();
+        Ok(0)
     }
 
     pub fn set_no_new_privs(&mut self, thread: u64) -> Answer {

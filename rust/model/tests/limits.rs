@@ -196,28 +196,73 @@ fn rulesets_16_the_last_of_64_rules() {
     unsound(&twice, "the 64th rule for the first one's port");
 }
 
+/// Threads with chains of layers, given as the first record of each and the one after its last; the
+/// last of a chain is its thread's youngest.
+fn chains(chains: &[(u64, u64)]) -> Tables {
+    let mut tables = fresh(6);
+    for (thread, (first, end)) in (0..).zip(chains.iter().copied()) {
+        let parent = |number| if number == first { 0 } else { number };
+        write(&mut tables, Layers, first..end, |number| {
+            [parent(number), WRITE_FILE, 0, 0, 0, 0, 1]
+        });
+        write(&mut tables, Threads, thread..thread + 1, |_| [1, end]);
+        tables.of_mut(System)[2] += end - first;
+    }
+    tables
+}
+
 #[test]
 fn layers_256() {
-    let used = |count| {
-        let mut tables = poked(fresh(6), System, 0, 2, count);
-        write(&mut tables, Layers, 0..count, |_| [0, WRITE_FILE]);
-        tables
-    };
-    let mut tables = used(256);
-    sound(&tables, "256 layers");
+    let mut tables = chains(&[(0, 64), (64, 128), (128, 192), (192, 255)]);
+    sound(&tables, "255 layers");
+    let mut full = chains(&[(0, 63), (64, 128), (128, 192), (192, 256), (63, 64)]);
+    sound(&full, "256 layers");
     for count in [255, 257] {
-        let counted = poked(tables.clone(), System, 0, 2, count);
+        let counted = poked(full.clone(), System, 0, 2, count);
         unsound(&counted, "256 layers, another number of them counted");
     }
+    ready_to_restrict(&mut full);
+    refused(&full, restrict(), ENOMEM);
     ready_to_restrict(&mut tables);
-    refused(&tables, restrict(), ENOMEM);
-    let mut room = used(255);
-    ready_to_restrict(&mut room);
-    succeeds(&mut room, restrict(), 0);
-    assert_eq!(room.row(Threads, 0), [1, 256, 1, 0]);
-    assert_eq!(Both::unchanging(&room, &rules_of(255)), 0);
-    refused(&room, rules_of(256), EBADF);
-    refused(&room, restrict(), ENOMEM);
+    refused(&tables, restrict(), E2BIG);
+    succeeds(&mut tables, Call::End { thread: 1 }, 0);
+    succeeds(&mut tables, Call::Clone { thread: 3 }, 1);
+    let mut marked = poked(tables, Threads, 1, 2, 1);
+    let restrict = Call::Restrict {
+        thread: 1,
+        ruleset: 0,
+        flags: 0,
+    };
+    succeeds(&mut marked, restrict, 0);
+    assert_eq!(marked.row(Threads, 1), [1, 65, 1, 0]);
+    assert_eq!(marked.row(Layers, 64), [255, 0, BIND_TCP, 0, 0, 0, 1]);
+    assert_eq!(marked.row(Layers, 254)[6], 2);
+    assert_eq!(Both::unchanging(&marked, &rules_of(64)), 0);
+    refused(&marked, rules_of(65), EBADF);
+}
+
+/// The last record free, and the first.
+#[test]
+fn the_only_free_record() {
+    for free in [255, 0] {
+        let other = 255 - free;
+        let mut tables = chains(&[
+            (1, 64),
+            (64, 128),
+            (128, 192),
+            (192, 255),
+            (other, other + 1),
+        ]);
+        ready_to_restrict(&mut tables);
+        succeeds(&mut tables, restrict(), 0);
+        assert_eq!(tables.row(Threads, 0), [1, free + 1, 1, 0]);
+        assert_eq!(tables.of(System)[2], 256);
+        let mut next = tables.clone();
+        succeeds(&mut next, Call::End { thread: 4 }, 0);
+        succeeds(&mut next, Call::Clone { thread: 0 }, 4);
+        refused(&tables, restrict(), E2BIG);
+        assert_eq!(next.row(Layers, free as usize)[6], 2);
+    }
 }
 
 /// The layers table as it was before there were 256 layers.
@@ -226,23 +271,25 @@ fn layers_of_the_old_length() {
     let mut tables = fresh(6);
     tables.of_mut(Layers).truncate(Layers.width() * 64);
     unsound(&tables, "64 layer records");
+    tables.of_mut(Layers).resize(6 * 256, 0);
+    unsound(&tables, "256 layer records of 6 cells");
 }
 
 fn rules_of(layer: u64) -> Call {
     Call::LayerRules { layer, report: 0 }
 }
 
-/// 16 layers of 64 rules, each rule for a port of its own.
+/// A domain of 16 layers of 64 rules, each rule for a port of its own.
 fn full_pool() -> Tables {
     let mut tables = fresh(6);
     write(&mut tables, System, 0..1, |_| [6, 1, 16, 1024]);
     write(&mut tables, Layers, 0..16, |number| {
-        [0, 0, BIND_TCP, 0, 64 * number, 64]
+        [number, 0, BIND_TCP, 0, 64 * number, 64, 1]
     });
     write(&mut tables, Pool, 0..1024, |number| {
         [PORT, number, BIND_TCP]
     });
-    tables
+    poked(tables, Threads, 0, 1, 16)
 }
 
 #[test]
@@ -277,39 +324,74 @@ fn overlaps_at_the_end_of_the_pool() {
     unsound(&run(15, 961), "the last run one rule late");
     unsound(&run(14, 897), "the run before the last one rule late");
     unsound(&run(0, 960), "the first run on the last one");
+    let moved = run(15, 0);
+    unsound(&moved, "the last run on the first one");
+    sound(
+        &poked(moved, Layers, 0, 4, 960),
+        "the first run and the last one the other way round",
+    );
     let short = poked(run(15, 1023), Layers, 15, 5, 1);
-    sound(&short, "a last run of the last rule alone");
-    let both = poked(poked(short, Layers, 14, 4, 1023), Layers, 14, 5, 1);
-    unsound(&both, "two runs of the last rule");
+    unsound(&short, "a last run of the last rule alone");
 }
 
-/// A chain of layers, the youngest of thread 0's domain being the given one, counted from 1.
-fn chain(layers: u64, youngest: u64) -> Tables {
-    let mut tables = poked(fresh(6), System, 0, 2, layers);
-    write(&mut tables, Layers, 0..layers, |number| {
-        [number, WRITE_FILE]
-    });
-    poked(tables, Threads, 0, 1, youngest)
+/// The runs of a full pool are given back one after the other, the first ones first.
+#[test]
+fn a_full_pool_comes_back() {
+    let mut tables = full_pool();
+    ready_to_restrict(&mut tables);
+    succeeds(&mut tables, add_port_rule(0, 80), 0);
+    write(&mut tables, Threads, 1..2, |_| [1, 8, 1, 0]);
+    tables = poked(tables, Layers, 7, 6, 2);
+    refused(&tables, restrict(), ENOMEM);
+    succeeds(&mut tables, Call::End { thread: 0 }, 0);
+    assert_eq!(tables.of(System), [6, 1, 8, 512]);
+    let on_1 = Call::Restrict {
+        thread: 1,
+        ruleset: 0,
+        flags: 0,
+    };
+    for number in 8..64 {
+        succeeds(&mut tables, on_1.clone(), 0);
+        let row = [number, 0, BIND_TCP, 0, 504 + number, 1, 1];
+        assert_eq!(tables.row(Layers, number as usize), row);
+    }
+    refused(&tables, on_1, E2BIG);
+    assert_eq!(tables.of(System), [6, 1, 64, 568]);
 }
 
 #[test]
 fn layers_to_a_domain() {
-    let mut full = chain(64, 64);
+    let mut full = chains(&[(0, 64)]);
     sound(&full, "64 layers to a domain");
-    unsound(&chain(65, 65), "65 layers to a domain");
-    let mut longer = chain(256, 64);
-    sound(
-        &longer,
-        "256 layers in a row, 64 of them in a thread's domain",
-    );
-    for tables in [&mut full, &mut longer] {
-        ready_to_restrict(tables);
-        refused(tables, restrict(), E2BIG);
-    }
+    unsound(&chains(&[(0, 65)]), "65 layers to a domain");
+    ready_to_restrict(&mut full);
+    refused(&full, restrict(), E2BIG);
     for layers in [15, 16, 62, 63] {
-        let mut room = chain(layers, layers);
+        let mut room = chains(&[(0, layers)]);
         ready_to_restrict(&mut room);
         succeeds(&mut room, restrict(), 0);
         assert_eq!(room.row(Threads, 0), [1, layers + 1, 1, 0]);
     }
+}
+
+/// A layer that is too deep on layers that are not.
+#[test]
+fn layers_below_a_domain() {
+    let deep = poked(chains(&[(0, 64), (64, 80)]), Layers, 64, 0, 48);
+    let deep = poked(deep, Layers, 47, 6, 2);
+    sound(&deep, "48 layers and 16 on them");
+    let deeper = poked(poked(deep, Layers, 47, 6, 1), Layers, 64, 0, 49);
+    let deeper = poked(deeper, Layers, 48, 6, 2);
+    unsound(&deeper, "49 layers and 16 on them");
+}
+
+#[test]
+fn rings_of_layers() {
+    let ring = poked(chains(&[(0, 4)]), Layers, 0, 0, 4);
+    let ring = poked(ring, Layers, 3, 6, 2);
+    unsound(&ring, "four layers in a ring, and a thread");
+    let alone = poked(poked(ring, Layers, 3, 6, 1), Threads, 0, 1, 0);
+    unsound(&alone, "four layers in a ring");
+    let itself = poked(poked(chains(&[(0, 1)]), Layers, 0, 0, 1), Layers, 0, 6, 2);
+    unsound(&itself, "a layer that is its own parent");
 }

@@ -2,13 +2,14 @@
 
 use model::call::{Broker, Call, Reply, UNWRITTEN};
 use model::compare::{compare, sweep, Case, Difference, Options, Step};
+use model::long_run::long_run;
 use model::reference::Rereading;
 use model::refusal::{Errno, Refusal};
 use model::rights::{Masks, Rights};
 use model::scenario::scenario;
 use model::shrink::shrink;
 use model::sound::{check, Unsound};
-use model::state::Key;
+use model::state::{Key, Model};
 use model::tables::{encode_into, Table, Tables};
 use model::tally::Tally;
 
@@ -65,18 +66,17 @@ impl Broker for ReferWithoutFs {
         let Ok(mut model) = check(tables) else {
             return Rereading.answer(tables, call);
         };
-        let all = 0..model.layers.len();
-        let wrong = |number: &usize| {
-            let masks = &model.layers[*number].masks;
-            masks.fs.is_empty() && (self.0)(masks)
-        };
-        let wrong: Vec<usize> = all.filter(wrong).collect();
-        for number in &wrong {
-            model.layers[*number].masks.fs = Rights::REFER;
+        let wrong = |masks: &Masks| masks.fs.is_empty() && (self.0)(masks);
+        let layers = model.layers.iter_mut();
+        let wrong = layers.filter(|(_, layer)| wrong(&layer.masks));
+        let mut changed = Vec::new();
+        for (number, layer) in wrong {
+            layer.masks.fs = Rights::REFER;
+            changed.push(*number);
         }
         let (answer, report) = model.answer(call);
-        for layer in wrong {
-            if let Some(layer) = model.layers.get_mut(layer) {
+        for layer in changed {
+            if let Some(layer) = model.layers.get_mut(&layer) {
                 layer.masks.fs = Rights::NONE;
             }
         }
@@ -231,8 +231,250 @@ fn a_missing_test_of_soundness_is_found() {
     let (case, difference) = found(&mut Careless);
     let text = scenario(&case, &difference);
     assert_eq!(case.steps.len(), 2, "{text}");
-    assert!(text.lines().count() <= 20, "{text}");
+    assert!(text.lines().count() <= 25, "{text}");
     assert!(text.contains("=> EIO\n"), "{text}");
+}
+
+/// Answers EIO for tables of a sort that are sound.
+struct Narrow(fn(&Model) -> bool);
+
+impl Broker for Narrow {
+    fn answer(&mut self, tables: &mut Tables, call: &Call) -> Reply {
+        match check(tables) {
+            Ok(model) if (self.0)(&model) && !matches!(call, Call::Fresh { .. }) => {
+                Reply::of(Err(Refusal::NotSound), call.report_of([0, 0]))
+            }
+            _ => Rereading.answer(tables, call),
+        }
+    }
+}
+
+/// A case of one call on tables of so many layers, to which the broker answers EIO.
+fn found_narrow(sort: fn(&Model) -> bool, layers: usize) {
+    let (case, difference) = found(&mut Narrow(sort));
+    let text = scenario(&case, &difference);
+    assert_eq!(case.steps.len(), 1, "{text}");
+    assert_eq!(case.start.layers.len(), layers, "{text}");
+    assert_eq!(difference.broker.number, Errno::EIO.returned(), "{text}");
+}
+
+/// Before request W13 layers in use came first.
+#[test]
+fn layers_in_use_first_is_found() {
+    found_narrow(
+        |model| model.layers.keys().zip(0..).any(|(n, m)| *n != m),
+        1,
+    );
+}
+
+/// Before request W13 a layer's parent had a smaller number.
+#[test]
+fn smaller_parents_are_found() {
+    let larger = |model: &Model| {
+        let mut layers = model.layers.iter();
+        layers.any(|(number, layer)| layer.parent > Some(*number))
+    };
+    found_narrow(larger, 2);
+}
+
+#[test]
+fn runs_in_the_order_of_records_are_found() {
+    found_narrow(|model| !model.runs.is_sorted(), 2);
+}
+
+/// Grants every request on tables that break one clause of soundness.
+struct Clauseless(Unsound);
+
+impl Broker for Clauseless {
+    fn answer(&mut self, tables: &mut Tables, call: &Call) -> Reply {
+        match call {
+            Call::Access { .. } if check(tables) == Err(self.0) => Reply::of(Ok(0), Vec::new()),
+            _ => Rereading.answer(tables, call),
+        }
+    }
+}
+
+#[test]
+fn clauses_about_layers_that_are_not_tested_are_found() {
+    use Unsound::*;
+    for clause in [FreeLayer, LayersUsed, PoolNotFilled, Holders, DomainTooDeep] {
+        let (case, difference) = found(&mut Clauseless(clause));
+        let text = scenario(&case, &difference);
+        assert_eq!(case.steps.len(), 2, "{clause:?}: {text}");
+        assert!(text.contains("=> EIO\n"), "{clause:?}: {text}");
+    }
+}
+
+/// Writes cells after the successes of some calls, given the tables before and after.
+struct Rewriting<F>(F);
+
+impl<F: Fn(&Call, &Tables, &mut Tables)> Broker for Rewriting<F> {
+    fn answer(&mut self, tables: &mut Tables, call: &Call) -> Reply {
+        let before = tables.clone();
+        let reply = Rereading.answer(tables, call);
+        if reply.number < 1 << 63 {
+            self.0(call, &before, tables);
+        }
+        reply
+    }
+}
+
+/// A case of few calls in which cells differ, from a start of so many layers and threads.
+fn found_rewriting(fault: impl Fn(&Call, &Tables, &mut Tables), layers: usize, threads: usize) {
+    let (case, difference) = found(&mut Rewriting(fault));
+    let text = scenario(&case, &difference);
+    assert_eq!(case.steps.len(), 1, "{text}");
+    assert_eq!(case.start.layers.len(), layers, "{text}");
+    assert_eq!(case.start.threads.len(), threads, "{text}");
+    assert!(!difference.cells.is_empty(), "{text}");
+}
+
+/// The layer of a row is in use before and not after.
+fn given_back(before: &Tables, after: &Tables, row: usize) -> bool {
+    let in_use = |tables: &Tables| tables.row(Table::Layers, row)[6] != 0;
+    in_use(before) && !in_use(after)
+}
+
+fn copy_row(table: Table, row: usize, from: &Tables, to: &mut Tables) {
+    for (column, value) in from.row(table, row).iter().enumerate() {
+        to.poke(table, table.width() * row + column, *value);
+    }
+}
+
+#[test]
+fn a_clone_that_is_not_counted_is_found() {
+    let fault = |call: &Call, before: &Tables, after: &mut Tables| {
+        if let Call::Clone { .. } = call {
+            (0..256).for_each(|row| copy_row(Table::Layers, row, before, after));
+        }
+    };
+    found_rewriting(fault, 1, 1);
+}
+
+#[test]
+fn giving_back_the_youngest_alone_is_found() {
+    let fault = |call: &Call, before: &Tables, after: &mut Tables| {
+        if let Call::End { thread } = *call {
+            let youngest = before.row(Table::Threads, thread as usize)[1];
+            let others = (0..256).filter(|row| *row as u64 + 1 != youngest);
+            for row in others.collect::<Vec<usize>>() {
+                if given_back(before, after, row) {
+                    copy_row(Table::Layers, row, before, after);
+                }
+            }
+        }
+    };
+    found_rewriting(fault, 2, 2);
+}
+
+#[test]
+fn runs_that_stay_where_they_were_are_found() {
+    let fault = |call: &Call, before: &Tables, after: &mut Tables| {
+        if let Call::End { .. } = call {
+            for row in (0..256)
+                .filter(|row| !given_back(before, after, *row))
+                .collect::<Vec<_>>()
+            {
+                let first = before.row(Table::Layers, row)[4];
+                after.poke(Table::Layers, Table::Layers.width() * row + 4, first);
+            }
+        }
+    };
+    found_rewriting(fault, 2, 2);
+}
+
+#[test]
+fn an_empty_run_with_a_place_is_found() {
+    let fault = |call: &Call, before: &Tables, after: &mut Tables| {
+        if let Call::Restrict { thread, .. } = *call {
+            let new = after.row(Table::Threads, thread as usize)[1] as usize - 1;
+            if after.row(Table::Layers, new)[5] == 0 {
+                let used = before.of(Table::System)[3];
+                after.poke(Table::Layers, Table::Layers.width() * new + 4, used);
+            }
+        }
+    };
+    let (case, difference) = found(&mut Rewriting(fault));
+    let text = scenario(&case, &difference);
+    assert_eq!(case.steps.len(), 1, "{text}");
+    assert_eq!(difference.cells.len(), 1, "{text}");
+}
+
+#[test]
+fn a_pool_that_is_not_cleared_is_found() {
+    let fault = |call: &Call, before: &Tables, after: &mut Tables| {
+        if let Call::End { .. } = call {
+            let used = |tables: &Tables| tables.of(Table::System)[3] as usize;
+            for row in used(after)..used(before) {
+                copy_row(Table::Pool, row, before, after);
+            }
+        }
+    };
+    found_rewriting(fault, 1, 2);
+}
+
+/// Refuses with ENOMEM where the record after the last one in use is no record.
+struct NextRecord;
+
+impl Broker for NextRecord {
+    fn answer(&mut self, tables: &mut Tables, call: &Call) -> Reply {
+        if let (Call::Restrict { .. }, Ok(mut model)) = (call, check(tables)) {
+            if model.layers.contains_key(&255) && model.answer(call).0.is_ok() {
+                return Reply::of(Err(Refusal::NoFreeLayer), Vec::new());
+            }
+        }
+        Rereading.answer(tables, call)
+    }
+}
+
+#[test]
+fn the_record_after_the_last_is_found() {
+    let (case, difference) = found(&mut NextRecord);
+    let text = scenario(&case, &difference);
+    assert_eq!(case.steps.len(), 1, "{text}");
+    assert_eq!(case.start.layers.len(), 1, "{text}");
+    let case = long_run(&mut NextRecord, 1, 20_000, &mut Tally::default());
+    let (case, difference) = shortened(&mut NextRecord, case);
+    let text = scenario(&case, &difference);
+    assert_eq!(case.steps.len(), 1, "{text}");
+}
+
+/// Tests that a thread is not the only one before that it is live.
+struct BusyFirst;
+
+impl Broker for BusyFirst {
+    fn answer(&mut self, tables: &mut Tables, call: &Call) -> Reply {
+        if let (Call::End { .. }, Ok(model)) = (call, check(tables)) {
+            if model.threads.len() == 1 {
+                return Reply::of(Err(Refusal::OnlyThread), Vec::new());
+            }
+        }
+        Rereading.answer(tables, call)
+    }
+}
+
+#[test]
+fn a_busy_thread_that_is_not_live_is_found() {
+    let (case, difference) = found(&mut BusyFirst);
+    let text = scenario(&case, &difference);
+    assert_eq!(case.steps.len(), 1, "{text}");
+    assert!(text.contains("=> ESRCH\n"), "{text}");
+}
+
+#[test]
+fn a_long_run_meets_full_tables() {
+    let mut tally = Tally::default();
+    assert_eq!(long_run(&mut Rereading, 1, 20_000, &mut tally), None);
+    let text = tally.to_string();
+    for refusal in [
+        "DomainFull",
+        "NoFreeLayer",
+        "PoolFull",
+        "NoFreeThread",
+        "OnlyThread",
+    ] {
+        assert!(text.contains(&format!(" {refusal} ")), "{refusal}: {text}");
+    }
 }
 
 /// Answers as if a longer pool were right.

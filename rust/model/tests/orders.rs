@@ -1,7 +1,7 @@
 //! Pairs of refusals that hold at once: the one that stands first in the order answers, and nothing
 //! changes. The model is asked which refusal it is, the proved core for the number.
 
-use model::call::Call;
+use model::call::{Broker, Call};
 use model::proved::Both;
 use model::refusal::Refusal::{self, *};
 use model::refusal::{returned, Answer};
@@ -232,16 +232,19 @@ fn restrict_order() {
     stack(&mut model, 0, MAX_DOMAIN);
     refused(&model, restrict(0, 0, 0), DomainFull);
     refused(&model, restrict(0, 9, 0), RulesetNotOpen);
-    let other = unmarked;
-    model.set_admin(other, true).unwrap();
-    while model.layers.len() < MAX_LAYERS {
-        model.threads.get_mut(&other).unwrap().youngest = None;
-        stack(&mut model, other, MAX_DOMAIN);
+    model.set_admin(unmarked, true).unwrap();
+    let [other, third, last] = [(); 3].map(|()| model.clone_thread(unmarked).unwrap());
+    for thread in [other, third] {
+        stack(&mut model, thread, MAX_DOMAIN);
     }
+    stack(&mut model, last, MAX_DOMAIN - 1);
+    model.restrict(unmarked, 0, 0).unwrap();
+    assert_eq!(model.layers.len(), MAX_LAYERS);
     refused(&model, restrict(0, 0, 0), DomainFull);
-    model.threads.get_mut(&other).unwrap().youngest = None;
-    refused(&model, restrict(other, 9, 0), RulesetNotOpen);
-    refused(&model, restrict(other, 0, 0), NoFreeLayer);
+    refused(&model, restrict(last, 9, 0), RulesetNotOpen);
+    refused(&model, restrict(last, 0, 0), NoFreeLayer);
+    model.end_thread(unmarked).unwrap();
+    assert_eq!(model.restrict(last, 0, 0), Ok(0));
 }
 
 #[test]
@@ -251,8 +254,7 @@ fn the_pool_runs_full() {
     stack(&mut model, 0, POOL_PLACES / MAX_RULES);
     refused(&model, restrict(0, 0, 0), PoolFull);
     deny(&mut model, Rights::EXECUTE);
-    let empty = model.layers.last().unwrap();
-    assert_eq!((empty.place, empty.rules.len()), (0, 0));
+    assert_eq!(model.layer_rules(16), Ok((0, 0)));
     // A full domain goes before the pool.
     let full = model.layers.len();
     let ruleset = open(&mut model, Rights::EXECUTE);
@@ -487,6 +489,120 @@ fn exchange_asks_both_containments() {
     refused(&uneven(2), exchange(0, 3, 2, 4), NotContained);
     refused(&uneven(1), exchange(0, 3, 2, 4), OtherNotContained);
     assert_eq!(uneven(1).rename(0, 3, 2, Some(4)), Ok(0));
+}
+
+fn end(thread: u64) -> Call {
+    Call::End { thread }
+}
+
+#[test]
+fn end_order() {
+    let mut model = sample();
+    for thread in [1, 7, 8, u64::MAX] {
+        refused(&model, end(thread), ThreadNotLive);
+    }
+    refused(&model, end(0), OnlyThread);
+    refused(&Model::fresh(0), end(1), ThreadNotLive);
+    refused(&Model::fresh(0), end(0), OnlyThread);
+    model.clone_thread(0).unwrap();
+    model.end_thread(0).unwrap();
+    refused(&model, end(0), ThreadNotLive);
+    refused(&model, end(1), OnlyThread);
+    assert_eq!(model.clone_thread(1), Ok(0));
+}
+
+/// Both answer a call with this number and leave the same tables.
+fn answered(model: &mut Model, call: Call, number: u64) {
+    let mut tables = encode(model);
+    assert_eq!(Both.answer(&mut tables, &call).number, number, "{call:?}");
+    assert_eq!(model.answer(&call).0, Ok(number), "{call:?}");
+    assert!(encode(model) == tables, "{call:?}");
+}
+
+/// Gives a thread a layer with so many rules, for ports from a number on.
+fn layer_of(model: &mut Model, thread: u64, first: u64, rules: u64) {
+    let ruleset = open(model, Rights::EXECUTE);
+    for port in first..first + rules {
+        model.add_port_rule(ruleset, port, 1, 0).unwrap();
+    }
+    answered(model, restrict(thread, ruleset, 0), 0);
+    model.close_ruleset(ruleset).unwrap();
+}
+
+/// Threads 0, 1 and 2: a layer of all, one of 1 and 2, then one of each with the older thread's
+/// rules after the younger one's.
+fn family() -> Model {
+    let mut model = sample();
+    layer_of(&mut model, 0, 0, 3);
+    answered(&mut model, Call::Clone { thread: 0 }, 1);
+    layer_of(&mut model, 1, 10, 0);
+    answered(&mut model, Call::Clone { thread: 1 }, 2);
+    layer_of(&mut model, 2, 20, 2);
+    layer_of(&mut model, 1, 30, 4);
+    model
+}
+
+#[test]
+fn a_layer_stays_while_another_thread_reaches_it() {
+    let mut model = family();
+    answered(&mut model, end(2), 0);
+    assert_eq!(Vec::from_iter(model.layers.keys()), [&0, &1, &3]);
+    assert_eq!(model.layer_rules(3), Ok((3, 4)));
+    assert_eq!(model.layer_rules(2), Err(LayerNotInUse));
+    assert_eq!(model.layer_rules(1), Ok((0, 0)));
+    answered(&mut model, end(0), 0);
+    assert_eq!(model.layers.len(), 3);
+}
+
+#[test]
+fn a_chain_is_given_back() {
+    let mut model = family();
+    answered(&mut model, end(1), 0);
+    assert_eq!(Vec::from_iter(model.layers.keys()), [&0, &1, &2]);
+    answered(&mut model, end(2), 0);
+    assert_eq!(Vec::from_iter(model.layers.keys()), [&0]);
+    assert_eq!(model.pool_used(), 3);
+}
+
+#[test]
+fn a_parent_may_have_a_larger_number() {
+    let mut model = family();
+    answered(&mut model, end(2), 0);
+    layer_of(&mut model, 1, 40, 1);
+    assert_eq!(model.threads[&1].youngest, Some(2));
+    assert_eq!(model.layers[&2].parent, Some(3));
+    assert_eq!(model.layer_rules(2), Ok((7, 1)));
+    answered(&mut model, end(0), 0);
+    answered(&mut model, Call::Clone { thread: 1 }, 0);
+    answered(&mut model, end(1), 0);
+    assert_eq!(model.domain(model.threads[&0].youngest), [2, 3, 1, 0]);
+}
+
+#[test]
+fn runs_keep_their_order() {
+    let mut model = family();
+    answered(&mut model, end(2), 0);
+    // Record 2 again: its rules now stand behind those of record 3.
+    layer_of(&mut model, 0, 50, 5);
+    assert_eq!(model.threads[&0].youngest, Some(2));
+    assert_eq!(model.runs, [0, 3, 2]);
+    answered(&mut model, end(1), 0);
+    assert_eq!(model.runs, [0, 2]);
+    assert_eq!(model.layer_rules(2), Ok((3, 5)));
+}
+
+#[test]
+fn full_tables_have_room_after_an_end() {
+    let mut model = sample();
+    fill(&mut model, 0);
+    model.clone_thread(0).unwrap();
+    stack(&mut model, 0, POOL_PLACES / MAX_RULES);
+    refused(&model, restrict(1, 0, 0), PoolFull);
+    model.clone_thread(1).unwrap();
+    answered(&mut model, end(0), 0);
+    assert_eq!((model.layers.len(), model.pool_used()), (0, 0));
+    stack(&mut model, 1, POOL_PLACES / MAX_RULES);
+    refused(&model, restrict(2, 0, 0), PoolFull);
 }
 
 #[test]

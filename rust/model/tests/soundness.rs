@@ -10,7 +10,7 @@ use model::rights::Rights;
 use model::sound::Unsound::{self, *};
 use model::sound::{check, decode};
 use model::start::start;
-use model::state::Model;
+use model::state::{Layer, Model};
 use model::tables::Table::{self, *};
 use model::tables::{encode, Tables};
 
@@ -70,10 +70,14 @@ fn counters() {
     broken(Level, &[(System, 0, 7)]);
     broken(ObjectCounter, &[(System, 1, 0)]);
     broken(ObjectCounter, &[(System, 1, (1 << 32) + 1)]);
-    broken(LayerCounter, &[(System, 2, 257)]);
+    for layers in [0, 2, 4, 257, u64::MAX] {
+        broken(LayersUsed, &[(System, 2, layers)]);
+    }
     broken(PoolCounter, &[(System, 3, 1025)]);
+    broken(RunNotInPool, &[(System, 3, 5)]);
+    broken(PoolNotFilled, &[(System, 3, 7)]);
+    broken(PoolNotFilled, &[(System, 3, 1024)]);
     harmless(&[(System, 1, 1 << 32)]);
-    harmless(&[(System, 3, 1024)]);
 }
 
 #[test]
@@ -120,22 +124,82 @@ fn rules() {
     harmless(&[(System, 1, 9), (Rulesets, 5, 8), (Rulesets, 6, 8)]);
 }
 
+/// The cell of a layer.
+fn of_layer(layer: usize, column: usize, value: u64) -> (Table, usize, u64) {
+    (Layers, LAYER * layer + column, value)
+}
+
 #[test]
 fn layers() {
-    let twice = [(Layers, LAYER * 2 + 4, 1), (Layers, LAYER * 2 + 5, 2)];
     broken(LayerHandlesNothing, &[(Layers, 1, 0), (Layers, 2, 0)]);
     broken(MasksNotOfLevel, &[(Layers, 3, 4)]);
-    broken(FreeLayer, &[(Layers, LAYER * 3, 1)]);
-    broken(FreeLayer, &[(System, 2, 2), (Threads, 1, 2)]);
-    broken(LayerParent, &[(Layers, LAYER, 2)]);
-    broken(EmptyRunPlace, &[(Layers, 4, 1)]);
-    broken(RunNotInPool, &[(Layers, LAYER * 2 + 4, 4)]);
-    broken(RunNotInPool, &[(Layers, LAYER * 2 + 4, u64::MAX)]);
-    broken(RunsOverlap, &twice);
-    broken(TooManyRules, &[(System, 3, 1024), (Layers, 5, 65)]);
-    broken(FreePool, &[(Pool, 3 * 6 + 2, 1)]);
+    broken(FreeLayer, &[of_layer(3, 0, 1)]);
+    broken(FreeLayer, &[of_layer(255, 5, 1)]);
+    broken(FreeLayer, &[of_layer(2, 6, 0)]);
+    broken(LayerParent, &[of_layer(1, 0, 4)]);
+    broken(LayerParent, &[of_layer(1, 0, 257)]);
+    broken(LayerParent, &[of_layer(1, 0, u64::MAX)]);
+    broken(TooManyRules, &[of_layer(1, 5, 65)]);
     broken(RuleTwice, &[(Pool, 1, 1)]);
-    harmless(&[(System, 3, 8), (Pool, 3 * 7, 99)]);
+}
+
+#[test]
+fn runs() {
+    broken(EmptyRunPlace, &[of_layer(0, 4, 1)]);
+    broken(RunNotInPool, &[of_layer(2, 4, 4)]);
+    broken(RunNotInPool, &[of_layer(2, 4, u64::MAX)]);
+    broken(RunsOverlap, &[of_layer(2, 4, 1), of_layer(2, 5, 2)]);
+    broken(PoolNotFilled, &[of_layer(2, 5, 2)]);
+    broken(PoolNotFilled, &[of_layer(1, 5, 2)]);
+    broken(PoolNotFilled, &[of_layer(1, 4, 1), of_layer(1, 5, 2)]);
+    broken(FreePool, &[(Pool, 3 * 6 + 2, 1)]);
+    broken(FreePool, &[(Pool, 3 * 1023, 1)]);
+    broken(FreePool, &[(System, 3, 5), of_layer(2, 5, 2)]);
+    // The runs of records 1 and 2 hold the same rules.
+    harmless(&[of_layer(1, 4, 3), of_layer(2, 4, 0)]);
+}
+
+#[test]
+fn holders() {
+    for (layer, counts) in [(0, [2, 3, u64::MAX]), (1, [2, 3, 7]), (2, [2, 3, 256])] {
+        for count in counts {
+            broken(Holders, &[of_layer(layer, 6, count)]);
+        }
+    }
+    let other = [1, 1, 0, 0, 0, 0, 1];
+    let row = |layer, row: [u64; 7]| {
+        let cells = row.into_iter().enumerate();
+        cells.map(move |(column, value)| of_layer(layer, column, value))
+    };
+    let unreached: Vec<_> = row(9, other).chain([(System, 2, 4)]).collect();
+    broken(Holders, &unreached);
+    let uncounted = [(Threads, 4, 1), (Threads, 5, 10)];
+    broken(YoungestLayer, &uncounted);
+    let reached: Vec<_> = unreached.iter().copied().chain(uncounted).collect();
+    broken(Holders, &reached);
+    let counted: Vec<_> = reached.iter().copied().chain([of_layer(0, 6, 2)]).collect();
+    harmless(&counted);
+    let twice = [(Threads, 8, 1), (Threads, 9, 10), of_layer(9, 6, 2)];
+    harmless(&counted.iter().copied().chain(twice).collect::<Vec<_>>());
+}
+
+/// Records in any order: a parent with a larger number, and free ones between them.
+#[test]
+fn any_records() {
+    let mut model = decode(&sample()).unwrap();
+    let moved = |layer: usize| [7, 200, 3][layer];
+    let layers = std::mem::take(&mut model.layers);
+    for (number, layer) in layers {
+        let parent = layer.parent.map(moved);
+        model
+            .layers
+            .insert(moved(number), Layer { parent, ..layer });
+    }
+    model.runs = model.runs.iter().map(|layer| moved(*layer)).collect();
+    model.threads.get_mut(&0).unwrap().youngest = Some(3);
+    verdict::sound(&encode(&model), "records 7, 200, 3");
+    model.runs.reverse();
+    verdict::sound(&encode(&model), "runs in the other order");
 }
 
 #[test]
@@ -143,27 +207,46 @@ fn threads() {
     broken(ThreadLive, &[(Threads, 0, 2)]);
     broken(FreeThread, &[(Threads, 4 * 7 + 3, 1)]);
     broken(YoungestLayer, &[(Threads, 1, 4)]);
+    broken(YoungestLayer, &[(Threads, 1, 257)]);
+    broken(Holders, &[(Threads, 1, 2)]);
+    broken(Holders, &[(Threads, 1, 0)]);
+    broken(
+        Holders,
+        &[(Threads, 0, 0), (Threads, 1, 0), (Threads, 3, 0)],
+    );
     broken(Marks, &[(Threads, 2, 2)]);
     broken(Marks, &[(Threads, 3, 2)]);
-    harmless(&[(Threads, 0, 0), (Threads, 1, 0), (Threads, 3, 0)]);
+    harmless(&[(Threads, 3, 0)]);
+}
+
+#[test]
+fn no_thread() {
+    let mut tables = verdict::fresh(6);
+    tables.poke(Threads, 0, 0);
+    verdict::sound(&tables, "no live thread");
 }
 
 #[test]
 fn deep_domains() {
     let mut model = decode(&sample()).unwrap();
-    model.layers.truncate(1);
-    model.threads.get_mut(&0).unwrap().youngest = None;
-    for number in 1..65 {
-        let mut layer = model.layers[0].clone();
-        layer.parent = Some(number - 1);
-        model.layers.push(layer);
+    let first = model.layers[&0].clone();
+    model.layers.clear();
+    model.runs.clear();
+    for number in 0..65usize {
+        let mut layer = first.clone();
+        layer.parent = number.checked_sub(1);
+        model.add_layer(number, layer);
+        model.threads.get_mut(&0).unwrap().youngest = Some(number);
+        let tables = encode(&model);
+        match number {
+            62 | 63 => verdict::sound(&tables, "a domain of 63 or 64"),
+            64 => {
+                assert_eq!(check(&tables).err(), Some(DomainTooDeep));
+                verdict::unsound(&tables, "a domain of 65");
+            }
+            _ => {}
+        }
     }
-    model.threads.get_mut(&0).unwrap().youngest = Some(63);
-    verdict::sound(&encode(&model), "a domain of 64");
-    model.threads.get_mut(&0).unwrap().youngest = Some(64);
-    let tables = encode(&model);
-    assert_eq!(check(&tables).err(), Some(DomainTooDeep));
-    verdict::unsound(&tables, "a domain of 65");
 }
 
 /// The sample with a table cut, or filled up with a value.

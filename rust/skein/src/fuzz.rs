@@ -279,6 +279,8 @@ const CALLS: &[(&str, usize)] = &[
     ("restrict", 3),
     ("layer_rules", 1),
     ("clone", 1),
+    ("end", 1),
+    ("clone main -> other\nend", 1),
     ("set_no_new_privs", 1),
     ("set_admin", 2),
     ("access", 3),

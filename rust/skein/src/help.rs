@@ -22,8 +22,8 @@ Commands
            line does not allow is marked DIFFERS.
   explain  plays FILE without printing it, then draws the tree it leaves, with
            what each thread may do at each entry and port, asked of the broker
-           right by right. If an answer differs, it says which and draws
-           nothing.
+           right by right, and who holds each layer. If an answer differs, it
+           says which and draws nothing.
   demo     shows document 01's worked tree as explain does, and plays its
            worked cases.
 
@@ -60,6 +60,7 @@ Format (in full: docs/SCENARIO.md)
     restrict THREAD RULESET [FLAGS]
     layer_rules LAYER
     clone THREAD
+    end THREAD
     set_no_new_privs THREAD
     set_admin THREAD ON
     access THREAD ENTRY RIGHTS

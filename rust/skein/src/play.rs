@@ -190,6 +190,7 @@ impl Player {
         let thread = self.thread(thread)?;
         Ok(match call {
             ThreadCall::Clone => new(self.tables.clone_thread(thread).map(Thread::number)),
+            ThreadCall::End => done(self.tables.end(thread)),
             ThreadCall::SetNoNewPrivs => done(self.tables.set_no_new_privs(thread)),
             ThreadCall::SetAdmin { on } => done(self.tables.set_admin(thread, *on)),
             ThreadCall::Access { entry, rights } => {

@@ -79,6 +79,7 @@ pub fn reason(played: &Played) -> Option<String> {
         (Call::Ruleset(RulesetCall::AddPath { .. }), Errno::EPERM) => {
             "a rule on the root asks for a right to change something"
         }
+        (Call::Thread { .. }, Errno::EBUSY) => "the only live thread does not end",
         _ => errno.description(),
     };
     Some(format!("{errno}: {reason}"))

@@ -35,6 +35,9 @@ root            0  directory  0       - - - - -
 + granted   - denied   blank: not a right of this kind of entry
 ×N: an object with N entries (hard links)
 
+layer  holders
+0      1: thread main
+
 ports of  port   bind_tcp  connect_tcp
 main      8080   +         +
 main      other  -         +
@@ -283,6 +286,45 @@ fn json_has_the_documented_fields() {
     assert_eq!(ports[0].at("port").number(), 8080);
     assert_eq!(ports[1].at("port"), &Value::Null);
     assert_eq!(ports[1].at("denied").texts(), ["bind_tcp"]);
+}
+
+/// Thread 0 has no layer; `one` and its clone share a layer, on which each has one of its own. The layer that a thread had alone is
+/// given back with it.
+const SHARED: &str = "\
+create_ruleset fs=write_file -> r
+set_no_new_privs main
+clone main -> gone
+restrict gone r
+clone main -> one
+restrict one r
+clone one -> other
+restrict one r
+end gone
+restrict other r
+";
+
+#[test]
+fn the_holders_of_layers_are_shown() {
+    let ran = skein_with(&["explain", "-"], SHARED.as_bytes());
+    let shown = "\
+layer  holders
+0      1: thread other
+1      2: layer 0, layer 2
+2      1: thread one
+
+ports of";
+    assert!(ran.out.contains(shown), "{}", ran.out);
+    let document = json(&skein_with(&["explain", "--json", "-"], SHARED.as_bytes()).out);
+    let [youngest, shared, _] = document.at("layers").list() else {
+        panic!("three layers");
+    };
+    assert_eq!(youngest.at("parent").number(), 1);
+    assert_eq!(youngest.at("threads").list(), [Value::Number(3)]);
+    assert_eq!(shared.at("parent"), &Value::Null);
+    assert_eq!(shared.at("holders").number(), 2);
+    assert_eq!(shared.at("threads").list(), []);
+    let children = [0, 2].map(Value::Number);
+    assert_eq!(shared.at("children").list(), children);
 }
 
 #[test]

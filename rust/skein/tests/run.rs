@@ -245,6 +245,35 @@ layer_rules 2 => EBADF
 }
 
 #[test]
+fn the_name_of_an_ended_thread_is_bound_anew() {
+    let text = "\
+clone main -> a => new 1
+clone main -> b => new 2
+end a => 0
+set_admin a on => ESRCH
+clone main -> c => new 1
+set_admin a on => 0
+end c => 0
+end b => 0
+clone main -> b => new 1
+end b => 0
+end main => EBUSY
+clone main -> last => new 1
+end main => 0
+set_admin main on => ESRCH
+end last => EBUSY
+clone last => new 0
+set_admin main on => 0
+";
+    let ran = skein_with(&["run", "-"], text.as_bytes());
+    assert_eq!(ran.code, 0, "{}", ran.out);
+    assert!(ran.out.contains("17 calls, 17 expectations"), "{}", ran.out);
+    let refused = skein_with(&["run", "-"], b"end main\n");
+    let reason = "EBUSY: the only live thread does not end";
+    assert!(refused.out.contains(reason), "{}", refused.out);
+}
+
+#[test]
 fn json_has_the_documented_fields() {
     let text = "create main root fifo -> p => new 1\nremove main p\nremove main p => 0\n";
     let ran = skein_with(&["run", "-", "--json"], text.as_bytes());

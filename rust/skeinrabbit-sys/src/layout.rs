@@ -21,7 +21,7 @@ pub const ENTRY_WIDTH: usize = 3;
 /// The cells of a ruleset before its rules.
 pub const RULESET_HEAD: usize = 4;
 pub const RULESET_WIDTH: usize = RULESET_HEAD + RULE_WIDTH * MAX_RULES;
-pub const LAYER_WIDTH: usize = 6;
+pub const LAYER_WIDTH: usize = 7;
 pub const RULE_WIDTH: usize = 3;
 pub const THREAD_WIDTH: usize = 4;
 

@@ -136,7 +136,10 @@ calls! {
         skein_restrict[mut const const mut mut mut];
     /// Clones a thread; answers the new thread.
     clone(tables: &mut Cells, thread),
-        skein_clone[const const const const const mut];
+        skein_clone[const const const mut const mut];
+    /// Ends a thread; layers that no live thread reaches any more are given back.
+    end(tables: &mut Cells, thread),
+        skein_end[mut const const mut mut mut];
     /// Sets a thread's no_new_privs mark.
     set_no_new_privs(tables: &mut Cells, thread),
         skein_set_no_new_privs[const const const const const mut];

@@ -16,7 +16,8 @@ pub struct Cells {
     pub entries: Box<[u64; SIZES[1]]>,
     /// 16 rows: handled rights at files and at ports, scopes, number of rules, 64 rules.
     pub rulesets: Box<[u64; SIZES[2]]>,
-    /// 256 rows: parent layer + 1, handled rights at files and at ports, scopes, first pool rule, number of rules.
+    /// 256 rows: parent layer + 1, handled rights at files and at ports, scopes, first pool rule, number of rules, number of
+    /// holders.
     pub layers: Box<[u64; SIZES[3]]>,
     /// 1,024 rules: type (1 path, 2 port), object number or port, rights.
     pub pool: Box<[u64; SIZES[4]]>,

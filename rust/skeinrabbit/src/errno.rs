@@ -60,7 +60,7 @@ errnos! {
     EAGAIN = 11, "no free thread";
     ENOMEM = 12, "no room for a layer";
     EACCES = 13, "a layer denies the access";
-    EBUSY = 16, "the root stays where it is";
+    EBUSY = 16, "the root, or the only live thread";
     EXDEV = 18, "rights would widen, or REFER is denied";
     ENOTDIR = 20, "not a directory";
     EISDIR = 21, "a directory";

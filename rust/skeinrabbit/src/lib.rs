@@ -8,8 +8,8 @@
 //! # A sandbox
 //!
 //! A ruleset says which rights it *handles* and where it grants them. What it handles and grants nowhere is denied.
-//! [`OpenRuleset::restrict`] makes it a layer of a thread's domain, which is never taken away, and a request must be granted by
-//! every layer that handles it. So handle every right ([`AccessFs::from_all`]) and grant the few that are needed.
+//! [`OpenRuleset::restrict`] makes it a layer of a thread's domain, which stays until the thread ends ([`Tables::end`]), and a request
+//! must be granted by every layer that handles it. So handle every right ([`AccessFs::from_all`]) and grant the few that are needed.
 //!
 //! ```
 //! use skeinrabbit::{AccessFs, AccessNet, Entry, Errno, Kind, Level, Tables, Thread};

@@ -104,11 +104,11 @@ impl Tables {
         Errno::answer(raw).map(drop)
     }
 
-    /// Gives a thread a layer made of a ruleset as it is now, and answers the layer's number. Later rules or a close do not reach
-    /// the layer.
+    /// Gives a thread a layer made of a ruleset as it is now, and answers the layer's number, the lowest that is free. Later rules
+    /// or a close do not reach the layer.
     ///
     /// Refusals, in order: tables not sound, EIO; thread not live, ESRCH; level 0, EOPNOTSUPP; neither mark set, EPERM; flags
-    /// not 0, EINVAL; ruleset not open, EBADF; 64 layers already, E2BIG; no free layer or too few free pool rules, ENOMEM.
+    /// not 0, EINVAL; ruleset not open, EBADF; 64 layers already, E2BIG; 256 layers in use, or too few free pool rules, ENOMEM.
     ///
     /// ```
     /// # use skeinrabbit::*;
@@ -126,10 +126,11 @@ impl Tables {
         ruleset: Ruleset,
         flags: u64,
     ) -> Result<Layer, Errno> {
-        // The core answers 0; a new layer takes the next record.
-        let [_, _, layers_used, _] = *self.cells().system;
         let raw = sys::restrict(&mut self.raw(), thread.number(), ruleset.number(), flags);
-        Errno::answer(raw).map(|_| Layer::new(layers_used))
+        // The core answers 0; the new layer is the thread's youngest.
+        Errno::answer(raw)?;
+        let youngest = self.thread(thread).and_then(|row| row.youngest);
+        youngest.ok_or(Errno::EIO)
     }
 
     /// The rules of a layer: a part of the pool, not a copy.
@@ -181,6 +182,28 @@ impl Tables {
     pub fn clone_thread(&mut self, thread: Thread) -> Result<Thread, Errno> {
         let raw = sys::clone(&mut self.raw(), thread.number());
         Errno::answer(raw).map(Thread::new)
+    }
+
+    /// Ends a thread. Its number, and the layers and pool rules that no other live thread reaches, are used again.
+    ///
+    /// Refusals, in order: tables not sound, EIO; thread not live, ESRCH; the only live thread, EBUSY.
+    ///
+    /// ```
+    /// # use skeinrabbit::*;
+    /// let mut tables = Tables::new(Level::LATEST)?;
+    /// let worker = tables.clone_thread(Thread::MAIN)?;
+    /// tables.set_no_new_privs(worker)?;
+    /// tables.ruleset().handle_fs(AccessFs::ALL).create()?.restrict(worker)?;
+    /// assert_eq!(tables.layers().count(), 1);
+    /// assert_eq!(tables.end(worker), Ok(()));
+    /// assert_eq!(tables.layers().count(), 0);
+    /// assert_eq!(tables.end(worker), Err(Errno::ESRCH));
+    /// assert_eq!(tables.end(Thread::MAIN), Err(Errno::EBUSY));
+    /// # Ok::<(), Errno>(())
+    /// ```
+    pub fn end(&mut self, thread: Thread) -> Result<(), Errno> {
+        let raw = sys::end(&mut self.raw(), thread.number());
+        Errno::answer(raw).map(drop)
     }
 
     /// Sets a thread's no_new_privs mark, once for all.

@@ -44,6 +44,8 @@ pub struct LayerRow {
     pub parent: Option<Layer>,
     /// What it was asked to handle; it handles REFER too, unless it was asked for nothing of the file system.
     pub attribute: Attribute,
+    /// How many hold it: live threads whose youngest layer it is, and layers whose parent it is.
+    pub holders: u64,
 }
 
 /// A live thread.
@@ -160,19 +162,19 @@ impl Tables {
         (0..MAX_RULESETS as u64).filter_map(|number| self.open_ruleset(Ruleset::new(number)))
     }
 
-    /// A layer, if it is in use.
+    /// A layer, if it is in use: if someone holds it.
     pub fn layer(&self, layer: Layer) -> Option<LayerRow> {
-        let [parent, fs, net, scope, ..]: [u64; LAYER_WIDTH] =
+        let [parent, fs, net, scope, _, _, holders]: [u64; LAYER_WIDTH] =
             self.cells().row(Table::Layers, layer.number())?;
-        let attribute = Attribute::from_cells(fs, net, scope);
-        (attribute != Attribute::default()).then_some(LayerRow {
+        (holders != 0).then_some(LayerRow {
             layer,
             parent: layer_of(parent),
-            attribute,
+            attribute: Attribute::from_cells(fs, net, scope),
+            holders,
         })
     }
 
-    /// The layers in use, oldest first.
+    /// The layers in use, lowest number first.
     pub fn layers(&self) -> impl Iterator<Item = LayerRow> + '_ {
         (0..MAX_LAYERS as u64).filter_map(|number| self.layer(Layer::new(number)))
     }

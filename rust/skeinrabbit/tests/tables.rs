@@ -4,7 +4,7 @@ use skeinrabbit::*;
 type Call = fn(&mut Tables, [u64; 5]) -> Result<u64, Errno>;
 
 /// Every call over plain numbers.
-const CALLS: [Call; 17] = [
+const CALLS: [Call; 18] = [
     |t, [a, b, ..]| t.create_ruleset(&a.to_le_bytes(), b).map(Ruleset::number),
     |t, [a, ..]| t.close_ruleset(a.into()).map(|()| 0),
     |t, [a, b, c, d, _]| {
@@ -18,6 +18,7 @@ const CALLS: [Call; 17] = [
     |t, [a, b, c, ..]| t.restrict(a.into(), b.into(), c).map(|_| 0),
     |t, [a, ..]| t.layer_rules(a.into()).map(|_| 0),
     |t, [a, ..]| t.clone_thread(a.into()).map(Thread::number),
+    |t, [a, ..]| t.end(a.into()).map(|()| 0),
     |t, [a, ..]| t.set_no_new_privs(a.into()).map(|()| 0),
     |t, [a, b, ..]| t.set_admin(a.into(), b != 0).map(|()| 0),
     |t, [a, b, c, ..]| {
@@ -146,7 +147,7 @@ fn any_cells_can_be_looked_at() {
 fn tables_have_their_sizes() {
     let cells = Cells::zeroed();
     let sizes = Table::ALL.map(|table| cells.table(table).len());
-    assert_eq!(sizes, [4, 3072, 3136, 1536, 3072, 32]);
+    assert_eq!(sizes, [4, 3072, 3136, 1792, 3072, 32]);
     assert_eq!(Table::ALL.map(Table::size), sizes);
     for table in Table::ALL {
         assert_eq!(table.name().parse(), Ok(table));
@@ -284,6 +285,38 @@ fn a_new_layer_is_the_youngest_of_its_thread() {
         assert_eq!(layer, Layer::new(number));
         assert_eq!(tables.thread(thread).unwrap().youngest, Some(layer));
     }
+}
+
+#[test]
+fn layers_come_back_when_their_threads_end() {
+    let mut tables = layered();
+    let alone = tables.clone();
+    let other = tables.clone_thread(Thread::MAIN).unwrap();
+    let holders = |tables: &Tables, layer| tables.layer(Layer::new(layer)).map(|row| row.holders);
+    assert_eq!(
+        [0, 1].map(|layer| holders(&tables, layer)),
+        [Some(1), Some(2)]
+    );
+    let attribute = Attribute {
+        fs: AccessFs::REFER,
+        ..Attribute::default()
+    };
+    let kept = tables.create_ruleset(&attribute.to_bytes(), 0).unwrap();
+    assert_eq!(tables.restrict(other, kept, 0), Ok(Layer::new(2)));
+    assert_eq!(tables.restrict(Thread::MAIN, kept, 0), Ok(Layer::new(3)));
+    assert_eq!(tables.end(other), Ok(()));
+    assert_eq!(holders(&tables, 2), None);
+    // The lowest free record, below its parent's.
+    assert_eq!(tables.restrict(Thread::MAIN, kept, 0), Ok(Layer::new(2)));
+    let domain = tables.domain(Thread::MAIN).map(|row| row.layer.number());
+    assert_eq!(domain.collect::<Vec<u64>>(), [2, 3, 1, 0]);
+    assert_eq!(tables.end(Thread::MAIN), Err(Errno::EBUSY));
+    assert_eq!(tables.end(other), Err(Errno::ESRCH));
+
+    let mut again = alone.clone();
+    let other = again.clone_thread(Thread::MAIN).unwrap();
+    assert_eq!(again.end(other), Ok(()));
+    assert_eq!(again, alone);
 }
 
 #[test]

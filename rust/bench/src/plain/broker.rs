@@ -3,11 +3,11 @@
 
 use super::verdict::{lacks, rename_verdict};
 use crate::landlock::{
-    held_rights, make_right, remove_right, ALL_FS, DIRECTORY, EACCES, EBUSY, EINVAL, EIO, ENOENT,
-    ENOSPC, ENOTDIR, ENOTEMPTY, ESRCH, LAST_KIND, OBJECTS_END,
+    held_rights, make_right, remove_right, ALL_FS, DIRECTORY, EACCES, EAGAIN, EBUSY, EINVAL, EIO,
+    ENOENT, ENOSPC, ENOTDIR, ENOTEMPTY, ESRCH, LAST_KIND, OBJECTS_END,
 };
-use crate::tables::Tables;
-use skeinrabbit_sys::layout::ENTRY_WIDTH;
+use crate::tables::{Tables, HOLDERS};
+use skeinrabbit_sys::layout::{ENTRY_WIDTH, LAYER_WIDTH, RULE_WIDTH, THREAD_WIDTH};
 
 /// A broker with its soundness test.
 #[derive(Clone, Copy)]
@@ -48,6 +48,16 @@ impl Broker {
     /// Renames an entry into a directory, with nothing replaced.
     pub fn rename(self, tables: &mut Tables, thread: u64, source: u64, directory: u64) -> u64 {
         number(self.renamed(tables, thread, source, directory))
+    }
+
+    /// Clones a thread; answers the new one.
+    pub fn clone_thread(self, tables: &mut Tables, thread: u64) -> u64 {
+        number(self.cloned(tables, thread))
+    }
+
+    /// Ends a thread.
+    pub fn end(self, tables: &mut Tables, thread: u64) -> u64 {
+        number(self.ended(tables, thread))
     }
 
     /// What every call tests first.
@@ -108,6 +118,58 @@ impl Broker {
         tables.entries[ENTRY_WIDTH * source as usize + 1] = directory;
         Ok(0)
     }
+
+    fn cloned(self, tables: &mut Tables, thread: u64) -> Answer {
+        self.begin(tables, thread)?;
+        let mut rows = tables.threads.chunks_exact(THREAD_WIDTH);
+        let free = rows.position(|row| row[0] == 0).ok_or(EAGAIN)?;
+        let first = THREAD_WIDTH * thread as usize;
+        let row = first..first + THREAD_WIDTH;
+        tables.threads.copy_within(row, THREAD_WIDTH * free);
+        if let Some(layer) = tables.youngest(thread).checked_sub(1) {
+            tables.layer_mut(layer as usize)[HOLDERS] += 1;
+        }
+        Ok(free as u64)
+    }
+
+    fn ended(self, tables: &mut Tables, thread: u64) -> Answer {
+        self.begin(tables, thread)?;
+        refuse(tables.live_threads() == 1, EBUSY)?;
+        let youngest = tables.youngest(thread);
+        tables.put_thread(thread, [0; THREAD_WIDTH]);
+        release(tables, youngest);
+        Ok(0)
+    }
+}
+
+/// Takes a holder from a layer (its number + 1, or 0). Without one it is given back, and so on with its parent.
+fn release(tables: &mut Tables, mut layer: u64) {
+    while let Some(number) = layer.checked_sub(1) {
+        let row = tables.layer_mut(number as usize);
+        row[HOLDERS] -= 1;
+        if row[HOLDERS] != 0 {
+            return;
+        }
+        let (first, count) = (row[4], row[5]);
+        layer = row[0];
+        row.fill(0);
+        tables.system[2] -= 1;
+        close_up(tables, first, count);
+    }
+}
+
+/// Takes a run out of the pool; those behind it move down.
+fn close_up(tables: &mut Tables, first: u64, count: u64) {
+    let used = tables.system[3];
+    let [from, to, end] = [first + count, first, used].map(|place| RULE_WIDTH * place as usize);
+    tables.pool.copy_within(from..end, to);
+    tables.pool[end - (from - to)..end].fill(0);
+    for row in tables.layers.chunks_exact_mut(LAYER_WIDTH) {
+        if row[5] != 0 && row[4] > first {
+            row[4] -= count;
+        }
+    }
+    tables.system[3] = used - count;
 }
 
 /// Whether an entry is another one or stands above it.

@@ -2,7 +2,7 @@
 
 use super::verdicts::access_request;
 use super::{policies, sound_tables};
-use crate::inputs::{Questions, Random};
+use crate::inputs::{self, Questions, Random};
 use crate::landlock::{DIRECTORY, REGULAR};
 use crate::measure::{against, differ, duration, line, table, time, Effort, Side};
 use crate::plain::broker::Broker;
@@ -10,8 +10,9 @@ use crate::plain::soundness::{is_sound, Buckets, Pairwise};
 use crate::plain::verdict::rename_verdict;
 use crate::tables::Tables;
 
-/// All calls are those of thread 0.
+/// All calls are those of thread 0, but for ends, which are of thread 1.
 const THREAD: u64 = 0;
+const OTHER_THREAD: u64 = 1;
 /// Calls that are compared and, at least, timed in a run.
 const COMPARED: u64 = 64;
 const TIMED: u64 = 8;
@@ -46,6 +47,27 @@ pub fn run(effort: Effort) {
             tables,
             &script,
         );
+    }
+    threads(effort, &policies[..5]);
+}
+
+/// Clones and ends, and an end that gives 64 layers back.
+fn threads(effort: Effort, policies: &[(&str, Tables)]) {
+    for (name, tables) in policies {
+        let name = format!("clone or end, {name}");
+        compare(effort, &name, tables, &Script::Clone);
+    }
+    let start = inputs::with_leaver();
+    let names = [
+        "a copy of the tables",
+        "a copy, and the end of a thread with 64 layers",
+    ];
+    for (name, ends) in names.into_iter().zip([false, true]) {
+        let script = Script::Copied {
+            start: start.clone(),
+            ends,
+        };
+        compare(effort, name, &start, &script);
     }
 }
 
@@ -96,6 +118,20 @@ impl Program {
             Program::Plain(broker) => broker.remove(tables, THREAD, entry),
         }
     }
+
+    fn clone_thread(self, tables: &mut Tables) -> u64 {
+        match self {
+            Program::Core => skeinrabbit_sys::clone(&mut tables.cells(), THREAD),
+            Program::Plain(broker) => broker.clone_thread(tables, THREAD),
+        }
+    }
+
+    fn end(self, tables: &mut Tables) -> u64 {
+        match self {
+            Program::Core => skeinrabbit_sys::end(&mut tables.cells(), OTHER_THREAD),
+            Program::Plain(broker) => broker.end(tables, OTHER_THREAD),
+        }
+    }
 }
 
 /// Calls that can go on for ever: after each even number of them the tree is as before.
@@ -107,6 +143,13 @@ enum Script {
     Create {
         entry: u64,
         directory: u64,
+    },
+    /// Thread 0 is cloned, and the clone ended.
+    Clone,
+    /// The tables are made as at the start, and thread 1 is ended or not.
+    Copied {
+        start: Tables,
+        ends: bool,
     },
 }
 
@@ -147,6 +190,16 @@ impl Script {
             }
             Script::Create { directory, .. } if back => program.create(tables, *directory, REGULAR),
             Script::Create { entry, .. } => program.remove(tables, *entry),
+            Script::Clone if back => program.end(tables),
+            Script::Clone => program.clone_thread(tables),
+            Script::Copied { start, ends } => {
+                tables.copy_from(start);
+                if *ends {
+                    program.end(tables)
+                } else {
+                    0
+                }
+            }
         }
     }
 }

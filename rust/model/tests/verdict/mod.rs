@@ -49,6 +49,7 @@ fn calls() -> Vec<Call> {
             report: 3,
         },
         Call::Clone { thread },
+        Call::End { thread },
         Call::SetNoNewPrivs { thread },
         Call::SetAdmin { thread, on: 1 },
         Call::Access {

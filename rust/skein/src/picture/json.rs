@@ -1,15 +1,16 @@
 //! The picture as JSON.
-use super::{Explained, Held, Node, PortView, ThreadView};
+use super::{Explained, Held, LayerView, Node, PortView, ThreadView};
 use crate::json::Json;
 use crate::play::Play;
 use crate::transcript::{call_json, rights_json};
 use skeinrabbit::Entry;
 
-/// The members of the JSON document of `skein explain`; no entries and threads where there is no picture.
+/// The members of the JSON document of `skein explain`; no entries, threads and layers where there is no picture.
 pub fn json(file: &str, play: &Play, explained: &Explained) -> Json {
     let picture = explained.picture.as_ref();
     let nodes = picture.map_or(&[][..], |picture| &picture.nodes);
     let threads = picture.map_or(&[][..], |picture| &picture.threads);
+    let layers = picture.map_or(&[][..], |picture| &picture.layers);
     let columns = picture.map(|picture| picture.columns).unwrap_or_default();
     Json::Object(vec![
         ("command", Json::text("explain")),
@@ -23,6 +24,7 @@ pub fn json(file: &str, play: &Play, explained: &Explained) -> Json {
             "threads",
             Json::list(threads, |view| thread_json(view, nodes)),
         ),
+        ("layers", Json::list(layers, layer_json)),
     ])
 }
 
@@ -69,6 +71,25 @@ fn thread_json(view: &ThreadView, nodes: &[Node]) -> Json {
             }),
         ),
         ("ports", Json::list(&view.ports, port_json)),
+    ])
+}
+
+fn layer_json(view: &LayerView) -> Json {
+    Json::Object(vec![
+        ("layer", Json::Number(view.row.layer.number())),
+        (
+            "parent",
+            Json::option(view.row.parent, |parent| Json::Number(parent.number())),
+        ),
+        ("holders", Json::Number(view.row.holders)),
+        (
+            "threads",
+            Json::list(&view.threads, |thread| Json::Number(thread.number())),
+        ),
+        (
+            "children",
+            Json::list(&view.children, |layer| Json::Number(layer.number())),
+        ),
     ])
 }
 

@@ -9,7 +9,9 @@ pub use tree::Node;
 
 use crate::play::{Play, Player};
 use crate::scenario::Space;
-use skeinrabbit::{EntryRow, Layer, Level, PortRights, Rights, Rule, Tables, Thread, ThreadRow};
+use skeinrabbit::{
+    EntryRow, Layer, LayerRow, Level, PortRights, Rights, Rule, Tables, Thread, ThreadRow,
+};
 use std::collections::BTreeSet;
 
 /// What a scenario leaves, as far as it may be shown.
@@ -42,6 +44,8 @@ pub struct Picture {
     /// The entries, each directory before what is in it.
     pub nodes: Vec<Node>,
     pub threads: Vec<ThreadView>,
+    /// The layers in use, lowest number first.
+    pub layers: Vec<LayerView>,
 }
 
 /// What a thread may do.
@@ -53,6 +57,15 @@ pub struct ThreadView {
     /// For each node, in the same order.
     pub entries: Vec<Held<Rights>>,
     pub ports: Vec<PortView>,
+}
+
+/// A layer, and who holds it.
+pub struct LayerView {
+    pub row: LayerRow,
+    /// The threads whose youngest layer it is.
+    pub threads: Vec<Thread>,
+    /// The layers whose parent it is.
+    pub children: Vec<Layer>,
 }
 
 /// What is granted and what is denied, of what was asked.
@@ -96,6 +109,7 @@ impl Picture {
             columns,
             nodes,
             threads,
+            layers: layer_views(&player.tables),
         }
     }
 }
@@ -113,6 +127,20 @@ fn domain(tables: &Tables, thread: Thread) -> Vec<Layer> {
     let mut layers: Vec<Layer> = tables.domain(thread).map(|row| row.layer).collect();
     layers.reverse();
     layers
+}
+
+fn layer_views(tables: &Tables) -> Vec<LayerView> {
+    let views = tables.layers().map(|row| {
+        let held = Some(row.layer);
+        let threads = tables.threads().filter(|thread| thread.youngest == held);
+        let children = tables.layers().filter(|layer| layer.parent == held);
+        LayerView {
+            row,
+            threads: threads.map(|thread| thread.thread).collect(),
+            children: children.map(|layer| layer.layer).collect(),
+        }
+    });
+    views.collect()
 }
 
 /// The rights that a thread has at an entry. They are asked one by one only where not all are granted.

@@ -1,5 +1,5 @@
 //! The picture in plain text.
-use super::{Explained, Held, Node, Picture, ThreadView};
+use super::{Explained, Held, LayerView, Node, Picture, ThreadView};
 use crate::lines::broken;
 use crate::paint::Paint;
 use crate::words::shown;
@@ -17,7 +17,7 @@ pub fn text(explained: &Explained, width: usize, paint: Paint) -> String {
     }
 }
 
-/// The tree with a matrix of rights for each thread, then the ports.
+/// The tree with a matrix of rights for each thread, then the layers and the ports.
 fn picture_text(picture: &Picture, width: usize, paint: Paint) -> String {
     let left = Left::of(picture, width);
     let mut out = String::new();
@@ -38,6 +38,7 @@ fn picture_text(picture: &Picture, width: usize, paint: Paint) -> String {
     if picture.nodes.iter().any(|node| !is_drawn(node, left.tree)) {
         out.push_str("…N: an entry with N directories above it, too deep to be drawn\n");
     }
+    out.push_str(&layers(picture, width, paint));
     out.push_str(&ports(picture, paint));
     out
 }
@@ -193,6 +194,30 @@ fn mark(held: &Held<Rights>, right: Rights, paint: Paint) -> String {
     } else {
         " ".to_owned()
     }
+}
+
+/// For each layer how many hold it, and which threads and layers these are.
+fn layers(picture: &Picture, width: usize, paint: Paint) -> String {
+    let mut out = String::new();
+    if !picture.layers.is_empty() {
+        out.push_str(&format!("\n{}\n", paint.heading("layer  holders")));
+    }
+    for view in &picture.layers {
+        let number = view.row.layer.to_string();
+        let line = format!("{number:<5}  {}", holders(view, &picture.threads));
+        out.push_str(&broken(&line, 9, width));
+    }
+    out
+}
+
+fn holders(view: &LayerView, threads: &[ThreadView]) -> String {
+    let threads = threads
+        .iter()
+        .filter(|thread| view.threads.contains(&thread.row.thread))
+        .map(|thread| format!("thread {}", label(thread)));
+    let children = view.children.iter().map(|layer| format!("layer {layer}"));
+    let all: Vec<String> = threads.chain(children).collect();
+    format!("{}: {}", view.row.holders, all.join(", "))
 }
 
 /// For each thread the ports that a rule names, and all others as one.

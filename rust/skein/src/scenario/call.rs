@@ -60,6 +60,7 @@ pub enum RulesetCall {
 #[derive(Debug, PartialEq, Eq)]
 pub enum ThreadCall {
     Clone,
+    End,
     SetNoNewPrivs,
     SetAdmin { on: bool },
     Access { entry: Operand, rights: Rights },

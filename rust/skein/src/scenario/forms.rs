@@ -27,7 +27,7 @@ const CREATE_RULESET: &str =
     "create_ruleset [fs=RIGHTS] [net=RIGHTS] [scope=RIGHTS] [size=N] [flags=N]` \
     or `create_ruleset hex=BYTES [flags=N]";
 
-static FORMS: [Form; 18] = [
+static FORMS: [Form; 19] = [
     form("fresh LEVEL", None, fresh),
     form(CREATE_RULESET, Some(Space::Ruleset), create_ruleset),
     form("close_ruleset RULESET", None, close_ruleset),
@@ -44,6 +44,7 @@ static FORMS: [Form; 18] = [
     form("restrict THREAD RULESET [FLAGS]", None, restrict),
     form("layer_rules LAYER", None, layer_rules),
     form("clone THREAD", Some(Space::Thread), clone),
+    form("end THREAD", None, end),
     form("set_no_new_privs THREAD", None, set_no_new_privs),
     form("set_admin THREAD ON", None, set_admin),
     form("access THREAD ENTRY RIGHTS", None, access),
@@ -122,6 +123,12 @@ fn layer_rules(arguments: &mut Arguments) -> Result<Call, Bad> {
 fn clone(arguments: &mut Arguments) -> Result<Call, Bad> {
     let thread = arguments.thread()?;
     let call = ThreadCall::Clone;
+    Ok(Call::Thread { thread, call })
+}
+
+fn end(arguments: &mut Arguments) -> Result<Call, Bad> {
+    let thread = arguments.thread()?;
+    let call = ThreadCall::End;
     Ok(Call::Thread { thread, call })
 }
 

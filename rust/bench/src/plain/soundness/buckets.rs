@@ -2,7 +2,11 @@
 
 use super::{unlike_those_before, Method};
 use crate::landlock::DIRECTORY;
-use skeinrabbit_sys::layout::{ENTRY_WIDTH, LAYER_WIDTH, MAX_ENTRIES, MAX_POOL, RULE_WIDTH};
+use crate::tables::HOLDERS;
+use skeinrabbit_sys::layout::{
+    ENTRY_WIDTH, LAYER_WIDTH, MAX_DOMAIN, MAX_ENTRIES, MAX_LAYERS, MAX_POOL, RULE_WIDTH,
+    THREAD_WIDTH,
+};
 
 const BUCKETS: usize = 1024;
 const KEY_FLAGS: usize = 1024;
@@ -62,6 +66,23 @@ impl<'a> Method<'a> for Buckets<'a> {
         rows.all(|row| take_run(&mut taken, row[4] as usize, row[5] as usize))
     }
 
+    fn counts_true(layers: &[u64], threads: &[u64]) -> bool {
+        let mut counts = [0; MAX_LAYERS + 1];
+        for row in layers.chunks_exact(LAYER_WIDTH) {
+            counts[row[0] as usize] += 1;
+        }
+        for row in threads.chunks_exact(THREAD_WIDTH) {
+            counts[row[1] as usize] += 1;
+        }
+        let mut rows = layers.chunks_exact(LAYER_WIDTH).zip(&counts[1..]);
+        rows.all(|(row, count)| row[HOLDERS] == *count)
+    }
+
+    fn domains_end(layers: &[u64]) -> bool {
+        let mut depths = [0; MAX_LAYERS + 1];
+        (1..=MAX_LAYERS).all(|layer| find_depth(layers, layer, &mut depths))
+    }
+
     fn all_zero(cells: &[u64]) -> bool {
         let joined = |block: &[u64]| block.iter().fold(0, |joined, cell| joined | cell);
         let mut blocks = cells.chunks_exact(BLOCK);
@@ -119,6 +140,28 @@ fn take_run(taken: &mut [u64], first: usize, count: usize) -> bool {
         taken[word + 1] |= high;
     }
     true
+}
+
+/// Finds how deep a layer (its number + 1) and those below it are, where that isn't known; answers whether none is too deep.
+fn find_depth(layers: &[u64], layer: usize, depths: &mut [u8; MAX_LAYERS + 1]) -> bool {
+    let parent = |layer: usize| layers[LAYER_WIDTH * (layer - 1)] as usize;
+    let (mut at, mut steps) = (layer, 0);
+    while at != 0 && depths[at] == 0 {
+        if steps == MAX_DOMAIN {
+            return false;
+        }
+        steps += 1;
+        at = parent(at);
+    }
+    let mut depth = usize::from(depths[at]) + steps;
+    let sound = depth <= MAX_DOMAIN;
+    at = layer;
+    for _ in 0..steps {
+        depths[at] = depth as u8;
+        depth -= 1;
+        at = parent(at);
+    }
+    sound
 }
 
 /// Whether climbing from every live entry, all of them before the end, comes to entry 0.

@@ -10,10 +10,10 @@ use crate::landlock::{
     known_rights, DIRECTORY, FILE_SET, LAST_KIND, LAST_LEVEL, LAST_PORT, OBJECTS_END, PATH_RULE,
     PORT_RULE,
 };
-use crate::tables::Tables;
+use crate::tables::{Tables, HOLDERS};
 use skeinrabbit_sys::layout::{
-    ENTRY_WIDTH, LAYER_WIDTH, MAX_DOMAIN, MAX_ENTRIES, MAX_LAYERS, MAX_POOL, MAX_RULES,
-    RULESET_HEAD, RULESET_WIDTH, RULE_WIDTH, THREAD_WIDTH,
+    ENTRY_WIDTH, LAYER_WIDTH, MAX_ENTRIES, MAX_LAYERS, MAX_POOL, MAX_RULES, RULESET_HEAD,
+    RULESET_WIDTH, RULE_WIDTH, THREAD_WIDTH,
 };
 use skeinrabbit_sys::SIZES;
 
@@ -32,8 +32,14 @@ pub trait Method<'a>: Sized {
     /// Whether no rule before this one, all of them gone over, is for the same object or port.
     fn key_new(seen: &mut Self::Seen, rules: &[u64], number: usize) -> bool;
 
-    /// Whether the runs of layers in use, each within the pool, don't overlap.
+    /// Whether the runs of layers, each within the pool, don't overlap.
     fn runs_apart(layers: &[u64]) -> bool;
+
+    /// Whether the count of each layer is the number of layers and threads that name it; all name records.
+    fn counts_true(layers: &[u64], threads: &[u64]) -> bool;
+
+    /// Whether climbing from each layer ends within the limit of a domain; parents are records.
+    fn domains_end(layers: &[u64]) -> bool;
 
     fn all_zero(cells: &[u64]) -> bool;
 
@@ -47,7 +53,10 @@ pub fn is_sound<'a, M: Method<'a>>(tables: &'a Tables) -> bool {
     let lengths_right = tables.all().map(|table| table.len()) == SIZES;
     lengths_right
         && system_sound(&tables.system)
-        && threads_sound(tables)
+        && threads_sound(&tables.threads)
+        && layer_rows_sound::<M>(tables)
+        && M::counts_true(&tables.layers, &tables.threads)
+        && M::domains_end(&tables.layers)
         && entries_and_rules_sound::<M>(tables)
 }
 
@@ -63,36 +72,41 @@ fn entries_and_rules_sound<'a, M: Method<'a>>(tables: &'a Tables) -> bool {
 fn system_sound(system: &[u64]) -> bool {
     system[0] <= LAST_LEVEL
         && (1..=OBJECTS_END).contains(&system[1])
-        && system[2] <= MAX_LAYERS as u64
         && system[3] <= MAX_POOL as u64
 }
 
-fn threads_sound(tables: &Tables) -> bool {
-    let mut rows = tables.threads.chunks_exact(THREAD_WIDTH);
+fn threads_sound(threads: &[u64]) -> bool {
+    let mut rows = threads.chunks_exact(THREAD_WIDTH);
     rows.all(|row| match row[0] {
         0 => row == [0; THREAD_WIDTH],
-        1 => {
-            let marks = row[2] <= 1 && row[3] <= 1;
-            marks && row[1] <= tables.system[2] && chain_ends(&tables.layers, row[1])
-        }
+        1 => row[1] <= MAX_LAYERS as u64 && row[2] <= 1 && row[3] <= 1,
         _ => false,
     })
 }
 
-/// Whether the parents of a layer (its number + 1, or 0) come to none within the limit of a domain.
-fn chain_ends(layers: &[u64], youngest: u64) -> bool {
-    let mut at = youngest;
-    for _ in 0..MAX_DOMAIN {
-        if at == 0 {
-            return true;
+/// Whether each layer's row is sound by itself, but for masks and rules, and the runs fill the used pool.
+fn layer_rows_sound<'a, M: Method<'a>>(tables: &Tables) -> bool {
+    let (mut used, mut filled) = (0, 0);
+    let pool_used = tables.system[3];
+    let mut rows = tables.layers.chunks_exact(LAYER_WIDTH);
+    let sound = rows.all(|row| {
+        if row[HOLDERS] == 0 {
+            return row == [0; LAYER_WIDTH];
         }
-        let parent = (at - 1) as usize;
-        at = match layers.chunks_exact(LAYER_WIDTH).nth(parent) {
-            Some(row) => row[0],
-            None => 0,
-        };
-    }
-    at == 0
+        let (parent, first, count) = (row[0], row[4], row[5]);
+        used += 1;
+        filled += count.min(MAX_RULES as u64);
+        let placed = first <= pool_used && count <= pool_used - first;
+        placed
+            && parent <= MAX_LAYERS as u64
+            && count <= MAX_RULES as u64
+            && (count != 0 || first == 0)
+    });
+    sound
+        && tables.system[2] == used
+        && pool_used == filled
+        && M::runs_apart(&tables.layers)
+        && M::all_zero(&tables.pool[RULE_WIDTH * pool_used as usize..])
 }
 
 /// Whether entry 0 is the root and every row is sound by itself.
@@ -148,28 +162,15 @@ impl<'a, M: Method<'a>> RuleTest<M> {
         })
     }
 
+    /// Tests the masks and rules of layers whose runs lie in the pool.
     fn layers_sound(&self, tables: &Tables) -> bool {
-        let (layers, free_layers) = tables
-            .layers
-            .split_at(LAYER_WIDTH * tables.system[2] as usize);
-        let (pool, free_pool) = tables.pool.split_at(RULE_WIDTH * tables.system[3] as usize);
-        let mut rows = layers.chunks_exact(LAYER_WIDTH).enumerate();
-        rows.all(|(number, row)| row[0] <= number as u64 && self.layer_sound(row, pool))
-            && M::runs_apart(layers)
-            && M::all_zero(free_layers)
-            && M::all_zero(free_pool)
-    }
-
-    /// Tests a layer's row but for its parent; the pool is the part in use.
-    fn layer_sound(&self, row: &[u64], pool: &[u64]) -> bool {
-        let (masks, first, count) = (&row[1..4], row[4], row[5]);
-        let used = (pool.len() / RULE_WIDTH) as u64;
-        let placed = count <= MAX_RULES as u64 && first <= used && count <= used - first;
-        if !placed || (count == 0 && first != 0) {
-            return false;
-        }
-        let rules = &pool[RULE_WIDTH * first as usize..][..RULE_WIDTH * count as usize];
-        masks != [0; 3] && self.masks_known(masks) && self.rules_sound(masks, rules)
+        let mut rows = tables.layers.chunks_exact(LAYER_WIDTH);
+        rows.all(|row| {
+            let (masks, first, count) = (&row[1..4], row[4] as usize, row[5] as usize);
+            let rules = &tables.pool[RULE_WIDTH * first..][..RULE_WIDTH * count];
+            let free = row[HOLDERS] == 0;
+            free || masks != [0; 3] && self.masks_known(masks) && self.rules_sound(masks, rules)
+        })
     }
 
     fn masks_known(&self, masks: &[u64]) -> bool {

@@ -2,7 +2,10 @@
 
 use super::{unlike_those_before, Method};
 use crate::landlock::DIRECTORY;
-use skeinrabbit_sys::layout::{ENTRY_WIDTH, LAYER_WIDTH, MAX_ENTRIES};
+use crate::tables::HOLDERS;
+use skeinrabbit_sys::layout::{
+    ENTRY_WIDTH, LAYER_WIDTH, MAX_DOMAIN, MAX_ENTRIES, MAX_LAYERS, THREAD_WIDTH,
+};
 
 pub struct Pairwise<'a> {
     entries: &'a [u64],
@@ -31,6 +34,25 @@ impl<'a> Method<'a> for Pairwise<'a> {
         each.all(|(number, row)| {
             let mut before = layers.chunks_exact(LAYER_WIDTH).take(number);
             before.all(|other| other[4] + other[5] <= row[4] || row[4] + row[5] <= other[4])
+        })
+    }
+
+    fn counts_true(layers: &[u64], threads: &[u64]) -> bool {
+        let mut each = (1..).zip(layers.chunks_exact(LAYER_WIDTH));
+        each.all(|(named, row)| {
+            let parents = layers.chunks_exact(LAYER_WIDTH).map(|row| row[0]);
+            let youngest = threads.chunks_exact(THREAD_WIDTH).map(|row| row[1]);
+            let holders = parents.chain(youngest).filter(|layer| *layer == named);
+            row[HOLDERS] == holders.count() as u64
+        })
+    }
+
+    fn domains_end(layers: &[u64]) -> bool {
+        (1..=MAX_LAYERS).all(|layer| {
+            let parent = |layer: &usize| layers[LAYER_WIDTH * (layer - 1)] as usize;
+            let climb =
+                std::iter::successors(Some(layer), |at| Some(parent(at)).filter(|at| *at != 0));
+            climb.take(MAX_DOMAIN + 1).count() <= MAX_DOMAIN
         })
     }
 
