@@ -80,6 +80,19 @@ impl Random {
         }
     }
 
+    /// One of the weighted choices.
+    pub fn weighted<T: Copy>(&mut self, choices: &[(u64, T)]) -> T {
+        let total = choices.iter().map(|choice| choice.0).sum();
+        let mut place = self.below(total);
+        for &(weight, choice) in choices {
+            if place < weight {
+                return choice;
+            }
+            place -= weight;
+        }
+        unreachable!("the weights add up to the total")
+    }
+
     /// A number at some limit.
     pub fn edge(&mut self) -> u64 {
         self.pick(&EDGES)
