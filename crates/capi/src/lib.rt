@@ -6,6 +6,7 @@ use codes::number;
 use codes::replaced_by;
 use codes::report;
 use judge::rules::cells_of;
+use tables::rows::LAYER_FIRST;
 use tables::rows::LAYER_WIDTH;
 ghost use mathlib.Core.Path.{_≡_};
 ghost use mathlib.Core.Bool.{cond};
@@ -36,7 +37,10 @@ fn span_from(layers: &[u64], cells: usize, l: u64, code: u64) -> usize
     if code != 0 {
         return 0;
     }
-    cells_of(row_read(layers, LAYER_WIDTH, l as usize, 4), cells)
+    cells_of(
+        row_read(layers, LAYER_WIDTH, l as usize, LAYER_FIRST),
+        cells,
+    )
 }
 
 #[no_mangle]

@@ -4,8 +4,13 @@ use access::errno::Reply;
 use access::limits::MAX_THREADS;
 use cells::row_read;
 use cells::row_write;
+use tables::rows::LAYER_HOLDERS;
 use tables::rows::LAYER_WIDTH;
+use tables::rows::THREAD_ADMIN;
+use tables::rows::THREAD_PRIVS;
+use tables::rows::THREAD_STATE;
 use tables::rows::THREAD_WIDTH;
+use tables::rows::THREAD_YOUNGEST;
 use tables::rows::thread_live;
 use tables::rows::youngest_of;
 ghost use mathlib.Core.Path.{_≡_};
@@ -58,12 +63,12 @@ fn copy_thread(threads: &mut [u64], u: usize, t: u64)
     ensures { λ r. ⌜ now (threads .exit) ≡ copiedThread (now (threads .entry)) u t ⌝ }
 {
     let youngest = youngest_of(threads, t);
-    let privs = row_read(threads, THREAD_WIDTH, t as usize, 2);
-    let admin = row_read(threads, THREAD_WIDTH, t as usize, 3);
-    row_write(threads, THREAD_WIDTH, u, 0, 1);
-    row_write(threads, THREAD_WIDTH, u, 1, youngest);
-    row_write(threads, THREAD_WIDTH, u, 2, privs);
-    row_write(threads, THREAD_WIDTH, u, 3, admin);
+    let privs = row_read(threads, THREAD_WIDTH, t as usize, THREAD_PRIVS);
+    let admin = row_read(threads, THREAD_WIDTH, t as usize, THREAD_ADMIN);
+    row_write(threads, THREAD_WIDTH, u, THREAD_STATE, 1);
+    row_write(threads, THREAD_WIDTH, u, THREAD_YOUNGEST, youngest);
+    row_write(threads, THREAD_WIDTH, u, THREAD_PRIVS, privs);
+    row_write(threads, THREAD_WIDTH, u, THREAD_ADMIN, admin);
 }
 
 // One holder more for a layer (its number + 1, or 0 for none).
@@ -74,8 +79,14 @@ fn hold_layer(layers: &mut [u64], y: u64)
     if y == 0 {
         return;
     }
-    let held = row_read(layers, LAYER_WIDTH, (y - 1) as usize, 6);
-    row_write(layers, LAYER_WIDTH, (y - 1) as usize, 6, held + 1);
+    let held = row_read(layers, LAYER_WIDTH, (y - 1) as usize, LAYER_HOLDERS);
+    row_write(
+        layers,
+        LAYER_WIDTH,
+        (y - 1) as usize,
+        LAYER_HOLDERS,
+        held + 1,
+    );
 }
 
 // Gives the lowest free thread a copy of a thread's domain and marks.

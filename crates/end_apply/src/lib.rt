@@ -8,6 +8,8 @@ use domain_end::end_checks;
 use end_release::minus;
 use end_release::release;
 use end_release::zero_row;
+use tables::rows::LAYER_HOLDERS;
+use tables::rows::LAYER_PARENT;
 use tables::rows::LAYER_WIDTH;
 use tables::rows::THREAD_WIDTH;
 use tables::rows::youngest_of;
@@ -36,12 +38,18 @@ fn put_layer(
             return;
         }
         let l = at - 1;
-        let held = row_read(layers, LAYER_WIDTH, l as usize, 6);
+        let held = row_read(layers, LAYER_WIDTH, l as usize, LAYER_HOLDERS);
         if held != 1 {
-            row_write(layers, LAYER_WIDTH, l as usize, 6, minus(held, 1));
+            row_write(
+                layers,
+                LAYER_WIDTH,
+                l as usize,
+                LAYER_HOLDERS,
+                minus(held, 1),
+            );
             return;
         }
-        at = row_read(layers, LAYER_WIDTH, l as usize, 0);
+        at = row_read(layers, LAYER_WIDTH, l as usize, LAYER_PARENT);
         release(system, entries, rulesets, layers, pool, threads, l);
         n -= 1;
     }

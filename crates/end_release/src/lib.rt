@@ -4,8 +4,12 @@ use cells::row_read;
 use cells::row_start;
 use cells::row_write;
 use cells::write;
+use tables::rows::LAYER_COUNT;
+use tables::rows::LAYER_FIRST;
 use tables::rows::LAYER_WIDTH;
 use tables::rows::RULE_WIDTH;
+use tables::rows::SYSTEM_LAYERS;
+use tables::rows::SYSTEM_POOL;
 use tables::rows::layers_used;
 use tables::rows::pool_used;
 ghost use mathlib.Core.Path.{_≡_};
@@ -48,11 +52,11 @@ pub fn zero_row(t: &mut [u64], width: usize, i: usize)
 fn lower_one(layers: &mut [u64], first: u64, count: u64, l: usize)
     ensures { λ r. ⌜ now (layers .exit) ≡ lowerOne (now (layers .entry)) first count l ⌝ }
 {
-    let at = row_read(layers, LAYER_WIDTH, l, 4);
+    let at = row_read(layers, LAYER_WIDTH, l, LAYER_FIRST);
     if !ends_before(first, count, at) {
         return;
     }
-    row_write(layers, LAYER_WIDTH, l, 4, minus(at, count));
+    row_write(layers, LAYER_WIDTH, l, LAYER_FIRST, minus(at, count));
 }
 
 fn lower_firsts(layers: &mut [u64], first: u64, count: u64)
@@ -102,12 +106,12 @@ pub fn release(
 )
     ensures { λ r. ⌜ after system entries rulesets layers pool threads ≡ released (before system entries rulesets layers pool threads) l ⌝ }
 {
-    let first = row_read(layers, LAYER_WIDTH, l as usize, 4);
-    let count = row_read(layers, LAYER_WIDTH, l as usize, 5);
+    let first = row_read(layers, LAYER_WIDTH, l as usize, LAYER_FIRST);
+    let count = row_read(layers, LAYER_WIDTH, l as usize, LAYER_COUNT);
     let used = layers_used(system);
     let taken = pool_used(system);
-    write(system, 2, minus(used, 1));
-    write(system, 3, minus(taken, count));
+    write(system, SYSTEM_LAYERS, minus(used, 1));
+    write(system, SYSTEM_POOL, minus(taken, count));
     lower_firsts(layers, first, count);
     zero_row(layers, LAYER_WIDTH, l as usize);
     close_pool(pool, first as usize, count as usize);

@@ -5,6 +5,7 @@ use access::limits::MAX_LEVEL;
 use cells::clear;
 use cells::write;
 use tables::rows::DIRECTORY;
+use tables::rows::SYSTEM_COUNTER;
 use tables::rows::lengths_right;
 ghost use mathlib.Core.Path.{_≡_};
 ghost use lib.ListN.{length, set, replicate};
@@ -55,7 +56,7 @@ fn fill(
     ensures { λ r. ⌜ after system entries rulesets layers pool threads ≡ filled (before system entries rulesets layers pool threads) level ⌝ }
 {
     clear_but_first(system, level);
-    write(system, 1, 1);
+    write(system, SYSTEM_COUNTER, 1);
     clear_but_first(entries, DIRECTORY);
     clear(rulesets);
     clear(layers);

@@ -1,2 +1,3 @@
 -- The laws of moves.
 pub mod Moves
+pub mod Against

@@ -1,3 +1,4 @@
 -- The verdict on link, rename and exchange.
 pub mod Needs
 pub mod Move
+pub mod Against

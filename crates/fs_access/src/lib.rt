@@ -2,11 +2,11 @@
 use access::errno::Errno;
 use access::errno::Reply;
 use access::rights::Rights;
-use judge_domain::entries::domain_lacks;
 use tables::rows::entry_live;
 use tables::rows::past_file_set;
 use tables::rows::thread_live;
 use tables::rows::youngest_of;
+use verdict::domain_lacks;
 ghost use mathlib.Core.Path.{_≡_};
 ghost use Rattle.laws.specs.Refusals.{first};
 ghost use Rattle.tables.specs.Tables.{before, after};

@@ -1,4 +1,4 @@
-// What one layer holds against a move: the needs that it denies, REFER, and the rights that are not contained.
+// What one layer holds against a move: the needs that it denies, and REFER and the rights that are not contained.
 use access::rights::Rights;
 use fs::verdict::Move;
 use judge::climb::layer_missing;
@@ -6,106 +6,71 @@ use judge::rules::layer_rules;
 use judge::rules::rights_on;
 use tables::rows::PATH_RULE;
 ghost use mathlib.Core.Path.{_≡_};
+ghost use Rattle.access.specs.Rights.{without};
+ghost use Rattle.tables.specs.Tables.{pathRule};
 ghost use Rattle.tables.specs.Layers.{layerAt};
-ghost use Rattle.fs.specs.Move.{deniedNeeds, deniedRefer, uncontained, escaping, crossing};
+ghost use Rattle.judge.specs.Rules.{rightsOn};
+ghost use Rattle.fs.specs.Move.{deniedNeeds, crossing};
+ghost use Rattle.fs.specs.Against.{compared, needsAgainst, crossingAgainst};
 
-// The needs other than REFER that the layer denies.
-pub fn denied_needs(entries: &[u64], layers: &[u64], pool: &[u64], l: u64, m: Move) -> Rights
-    ensures { λ r. ⌜ r .0 ≡ deniedNeeds (now (entries .entry)) (layerAt (now (layers .entry)) (now (pool .entry)) l) m ⌝ }
-{
-    let a = layer_missing(
-        entries,
-        layers,
-        pool,
-        l,
-        m.source,
-        m.leave.without(Rights::REFER),
-    );
-    let b = layer_missing(
-        entries,
-        layers,
-        pool,
-        l,
-        m.target,
-        m.enter.without(Rights::REFER),
-    );
-    a.join(b)
+// The sets that a layer holds against a question: what it denies, and what it holds against a move between two directories.
+pub struct Against {
+    pub denied: Rights,
+    pub crossing: Rights,
 }
 
-// REFER, if the layer denies it where it is needed.
-pub fn denied_refer(entries: &[u64], layers: &[u64], pool: &[u64], l: u64, m: Move) -> Rights
-    ensures { λ r. ⌜ r .0 ≡ deniedRefer (now (entries .entry)) (layerAt (now (layers .entry)) (now (pool .entry)) l) m ⌝ }
-{
-    let a = layer_missing(
-        entries,
-        layers,
-        pool,
-        l,
-        m.source,
-        m.leave.meet(Rights::REFER),
-    );
-    let b = layer_missing(
-        entries,
-        layers,
-        pool,
-        l,
-        m.target,
-        m.enter.meet(Rights::REFER),
-    );
-    a.join(b)
-}
-
-// The rights that fail containment: the layer denies them at `from`, not by its rule on the object, and does not deny them at `to`.
-fn layer_uncontained(
-    entries: &[u64],
-    layers: &[u64],
-    pool: &[u64],
-    l: u64,
-    from: u64,
-    to: u64,
-    object: u64,
-    rights: Rights,
-) -> Rights
-    ensures { λ r. ⌜ r .0 ≡ uncontained (now (entries .entry)) (layerAt (now (layers .entry)) (now (pool .entry)) l) from to object (rights .0) ⌝ }
-{
-    let own = rights_on(layer_rules(layers, pool, l), PATH_RULE, object);
-    let held = layer_missing(entries, layers, pool, l, from, rights).without(own);
-    held.without(layer_missing(entries, layers, pool, l, to, held))
-}
-
-// The rights that fail containment, of what moves either way.
-pub fn layer_escaping(entries: &[u64], layers: &[u64], pool: &[u64], l: u64, m: Move) -> Rights
-    ensures { λ r. ⌜ r .0 ≡ escaping (now (entries .entry)) (layerAt (now (layers .entry)) (now (pool .entry)) l) m ⌝ }
-{
-    let there = layer_uncontained(
-        entries,
-        layers,
-        pool,
-        l,
-        m.source,
-        m.target,
-        m.object,
-        m.rights,
-    );
-    let back = layer_uncontained(
-        entries,
-        layers,
-        pool,
-        l,
-        m.target,
-        m.source,
-        m.other,
-        m.back,
-    );
-    there.join(back)
-}
-
-// What the layer holds against a move between two directories.
-pub fn layer_crossing(entries: &[u64], layers: &[u64], pool: &[u64], l: u64, m: Move) -> Rights
-    ensures { λ r. ⌜ r .0 ≡ crossing (now (entries .entry)) (layerAt (now (layers .entry)) (now (pool .entry)) l) m ⌝ }
+// The rights that containment compares.
+fn compared_rights(m: Move) -> Rights
+    ensures { λ r. ⌜ r .0 ≡ compared m ⌝ }
 {
     if m.source == m.target {
         return Rights::NONE;
     }
-    denied_refer(entries, layers, pool, l, m).join(layer_escaping(entries, layers, pool, l, m))
+    m.rights.join(m.back)
+}
+
+// The needs other than REFER that the layer denies, by what it denies at the two directories.
+fn needs_against(m: Move, d1: Rights, d2: Rights) -> Rights
+    ensures { λ r. ⌜ r .0 ≡ needsAgainst m (d1 .0) (d2 .0) ⌝ }
+{
+    let a = d1.meet(m.leave.without(Rights::REFER));
+    a.join(d2.meet(m.enter.without(Rights::REFER)))
+}
+
+// What is left of a set without the rights of the layer's rule on an object. Of none nothing is left, whatever the rule is.
+fn left_by_rule(layers: &[u64], pool: &[u64], l: u64, object: u64, held: Rights) -> Rights
+    ensures { λ r. ⌜ r .0 ≡ without (held .0) (rightsOn (layerAt (now (layers .entry)) (now (pool .entry)) l .rules) pathRule object) ⌝ }
+{
+    if held.is_empty() {
+        return held;
+    }
+    held.without(rights_on(layer_rules(layers, pool, l), PATH_RULE, object))
+}
+
+// REFER where it is needed and denied, and the rights that fail containment.
+fn crossing_against(layers: &[u64], pool: &[u64], l: u64, m: Move, d1: Rights, d2: Rights) -> Rights
+    ensures { λ r. ⌜ r .0 ≡ crossingAgainst m (d1 .0) (d2 .0) (rightsOn (layerAt (now (layers .entry)) (now (pool .entry)) l .rules) pathRule (m .object)) (rightsOn (layerAt (now (layers .entry)) (now (pool .entry)) l .rules) pathRule (m .other)) ⌝ }
+{
+    if m.source == m.target {
+        return Rights::NONE;
+    }
+    let a = d1.meet(m.leave.meet(Rights::REFER));
+    let b = d2.meet(m.enter.meet(Rights::REFER));
+    let there = left_by_rule(layers, pool, l, m.object, d1.meet(m.rights).without(d2));
+    let back = left_by_rule(layers, pool, l, m.other, d2.meet(m.back).without(d1));
+    a.join(b).join(there.join(back))
+}
+
+// What the layer holds against a move, by one climb from each directory.
+pub fn layer_against(entries: &[u64], layers: &[u64], pool: &[u64], l: u64, m: Move) -> Against
+    ensures needs { λ r. ⌜ r .denied .0 ≡ deniedNeeds (now (entries .entry)) (layerAt (now (layers .entry)) (now (pool .entry)) l) m ⌝ }
+    ensures crossing { λ r. ⌜ r .crossing .0 ≡ crossing (now (entries .entry)) (layerAt (now (layers .entry)) (now (pool .entry)) l) m ⌝ }
+{
+    let wide = compared_rights(m);
+    let d1 = layer_missing(entries, layers, pool, l, m.source, m.leave.join(wide));
+    let d2 = layer_missing(entries, layers, pool, l, m.target, m.enter.join(wide));
+    Against {
+        denied: needs_against(m, d1, d2),
+        crossing: crossing_against(layers, pool, l, m, d1, d2),
+    }
 }

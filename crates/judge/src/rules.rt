@@ -3,8 +3,12 @@ use access::rights::Rights;
 use cells::read;
 use cells::row_read;
 use cells::row_start;
+use tables::rows::LAYER_COUNT;
+use tables::rows::LAYER_FIRST;
 use tables::rows::LAYER_WIDTH;
+use tables::rows::RULE_KEY;
 use tables::rows::RULE_WIDTH;
+use tables::rows::RULESET_COUNT;
 use tables::rows::RULESET_HEAD;
 use tables::rows::RULESET_WIDTH;
 ghost use mathlib.Core.Path.{_≡_};
@@ -18,10 +22,10 @@ fn is_rule(rules: &[u64], ty: u64, key: u64, i: usize) -> bool
     requires { ⌜ i < length (now rules) / ruleWidth ⌝ }
     ensures { λ r. ⌜ r ≡ isRule (now (rules .entry)) ty key i ⌝ }
 {
-    if rules[3 * i + 1] != key {
+    if rules[RULE_WIDTH * i + RULE_KEY] != key {
         return false;
     }
-    rules[3 * i] == ty
+    rules[RULE_WIDTH * i] == ty
 }
 
 // Where the rule for a key stands; the number of rules if there is none.
@@ -61,9 +65,12 @@ pub fn cells_of(count: u64, most: usize) -> usize
 pub fn layer_rules<'a>(layers: &[u64], pool: &'a [u64], l: u64) -> &'a [u64]
     ensures { λ r. ⌜ now r ≡ layerAt (now (layers .entry)) (now (pool .entry)) l .rules ⌝ }
 {
-    let from = cells_of(row_read(layers, LAYER_WIDTH, l as usize, 4), pool.len());
+    let from = cells_of(
+        row_read(layers, LAYER_WIDTH, l as usize, LAYER_FIRST),
+        pool.len(),
+    );
     let more = cells_of(
-        row_read(layers, LAYER_WIDTH, l as usize, 5),
+        row_read(layers, LAYER_WIDTH, l as usize, LAYER_COUNT),
         pool.len() - from,
     );
     let to = from + more;
@@ -82,7 +89,7 @@ pub fn ruleset_rules<'a>(rulesets: &'a [u64], r: u64) -> &'a [u64]
 {
     let start = row_start(rulesets.len(), RULESET_WIDTH, r as usize);
     let from = start + smaller(RULESET_HEAD, rulesets.len() - start);
-    let count = row_read(rulesets, RULESET_WIDTH, r as usize, 3);
+    let count = row_read(rulesets, RULESET_WIDTH, r as usize, RULESET_COUNT);
     let more = cells_of(count, rulesets.len() - from);
     let to = from + more;
     &rulesets[from..to]

@@ -42,7 +42,7 @@ pub extern "C" fn skein_measure_lacks(
 ) -> u64
     ensures { λ r. ⌜ r ≡ cond (lacks (now (entries .entry)) (now (layers .entry)) (now (pool .entry)) (chain (now (layers .entry)) maxDomain y) e asked) 1 0 ⌝ }
 {
-    if judge_domain::entries::domain_lacks(entries, layers, pool, y, e, Rights(asked)) {
+    if verdict::domain_lacks(entries, layers, pool, y, e, Rights(asked)) {
         1
     } else {
         0

@@ -3,9 +3,9 @@ use access::errno::Errno;
 use access::errno::Reply;
 use access::limits::MAX_PORT;
 use access::rights::Rights;
-use judge_domain::ports::domain_port_lacks;
 use tables::rows::thread_live;
 use tables::rows::youngest_of;
+use verdict::domain_port_lacks;
 ghost use mathlib.Core.Path.{_≡_};
 ghost use Rattle.laws.specs.Refusals.{first};
 ghost use Rattle.tables.specs.Tables.{before, after};
@@ -33,6 +33,7 @@ fn port_form(threads: &[u64], t: u64, port: u64, asked: Rights) -> u64
 
 // Some layer of the thread's domain denies one of the rights.
 fn is_denied(
+    entries: &[u64],
     layers: &[u64],
     pool: &[u64],
     threads: &[u64],
@@ -42,7 +43,7 @@ fn is_denied(
 ) -> bool
     ensures { λ r. ⌜ r ≡ portLacks (now (layers .entry)) (now (pool .entry)) (domain (now (layers .entry)) (now (threads .entry)) t) port (asked .0) ⌝ }
 {
-    domain_port_lacks(layers, pool, youngest_of(threads, t), port, asked)
+    domain_port_lacks(entries, layers, pool, youngest_of(threads, t), port, asked)
 }
 
 fn port_checks(
@@ -62,7 +63,7 @@ fn port_checks(
     if e != 0 {
         return e;
     }
-    if is_denied(layers, pool, threads, t, port, asked) {
+    if is_denied(entries, layers, pool, threads, t, port, asked) {
         return Errno::EACCES.0;
     }
     0

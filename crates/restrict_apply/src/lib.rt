@@ -10,8 +10,13 @@ use restrict_layer::count_layer;
 use restrict_layer::free_layer;
 use restrict_layer::put_layer;
 use tables::rows::RULE_WIDTH;
+use tables::rows::RULESET_COUNT;
+use tables::rows::RULESET_FS;
+use tables::rows::RULESET_NET;
+use tables::rows::RULESET_SCOPE;
 use tables::rows::RULESET_WIDTH;
 use tables::rows::THREAD_WIDTH;
+use tables::rows::THREAD_YOUNGEST;
 use tables::rows::pool_used;
 use tables::rows::youngest_of;
 ghost use mathlib.Core.Path.{_≡_};
@@ -37,14 +42,14 @@ fn apply_restrict(
 {
     let l = free_layer(layers);
     let p = pool_used(system);
-    let fs = row_read(rulesets, RULESET_WIDTH, r as usize, 0);
-    let net = row_read(rulesets, RULESET_WIDTH, r as usize, 1);
-    let scope = row_read(rulesets, RULESET_WIDTH, r as usize, 2);
-    let count = row_read(rulesets, RULESET_WIDTH, r as usize, 3);
+    let fs = row_read(rulesets, RULESET_WIDTH, r as usize, RULESET_FS);
+    let net = row_read(rulesets, RULESET_WIDTH, r as usize, RULESET_NET);
+    let scope = row_read(rulesets, RULESET_WIDTH, r as usize, RULESET_SCOPE);
+    let count = row_read(rulesets, RULESET_WIDTH, r as usize, RULESET_COUNT);
     copy(pool, RULE_WIDTH * (p as usize), ruleset_rules(rulesets, r));
     put_layer(layers, l, youngest_of(threads, t), fs, net, scope, p, count);
     count_layer(system, count);
-    row_write(threads, THREAD_WIDTH, t as usize, 1, l + 1);
+    row_write(threads, THREAD_WIDTH, t as usize, THREAD_YOUNGEST, l + 1);
 }
 
 // Gives the thread a new layer, made of the ruleset as it is now.

@@ -2,7 +2,16 @@
 use access::limits::MAX_LAYERS;
 use cells::row_write;
 use cells::write;
+use tables::rows::LAYER_COUNT;
+use tables::rows::LAYER_FIRST;
+use tables::rows::LAYER_FS;
+use tables::rows::LAYER_HOLDERS;
+use tables::rows::LAYER_NET;
+use tables::rows::LAYER_PARENT;
+use tables::rows::LAYER_SCOPE;
 use tables::rows::LAYER_WIDTH;
+use tables::rows::SYSTEM_LAYERS;
+use tables::rows::SYSTEM_POOL;
 use tables::rows::layer_in_use;
 use tables::rows::layers_used;
 use tables::rows::pool_used;
@@ -38,19 +47,19 @@ pub fn put_layer(
 )
     ensures { λ r. ⌜ now (layers .exit) ≡ layerRow (now (layers .entry)) l parent fs net scope first count ⌝ }
 {
-    row_write(layers, LAYER_WIDTH, l as usize, 0, parent);
-    row_write(layers, LAYER_WIDTH, l as usize, 1, fs);
-    row_write(layers, LAYER_WIDTH, l as usize, 2, net);
-    row_write(layers, LAYER_WIDTH, l as usize, 3, scope);
+    row_write(layers, LAYER_WIDTH, l as usize, LAYER_PARENT, parent);
+    row_write(layers, LAYER_WIDTH, l as usize, LAYER_FS, fs);
+    row_write(layers, LAYER_WIDTH, l as usize, LAYER_NET, net);
+    row_write(layers, LAYER_WIDTH, l as usize, LAYER_SCOPE, scope);
     row_write(
         layers,
         LAYER_WIDTH,
         l as usize,
-        4,
+        LAYER_FIRST,
         if count == 0 { 0 } else { first },
     );
-    row_write(layers, LAYER_WIDTH, l as usize, 5, count);
-    row_write(layers, LAYER_WIDTH, l as usize, 6, 1);
+    row_write(layers, LAYER_WIDTH, l as usize, LAYER_COUNT, count);
+    row_write(layers, LAYER_WIDTH, l as usize, LAYER_HOLDERS, 1);
 }
 
 // Counts the new layer and its rules.
@@ -60,6 +69,6 @@ pub fn count_layer(system: &mut [u64], count: u64)
 {
     let l = layers_used(system);
     let p = pool_used(system);
-    write(system, 2, l + 1);
-    write(system, 3, p + count);
+    write(system, SYSTEM_LAYERS, l + 1);
+    write(system, SYSTEM_POOL, p + count);
 }

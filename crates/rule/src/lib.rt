@@ -8,6 +8,9 @@ use judge::rules::rule_place;
 use judge::rules::ruleset_rules;
 use tables::rows::PATH_RULE;
 use tables::rows::PORT_RULE;
+use tables::rows::RULESET_COUNT;
+use tables::rows::RULESET_FS;
+use tables::rows::RULESET_NET;
 use tables::rows::RULESET_WIDTH;
 use tables::rows::entry_live;
 use tables::rows::level_of;
@@ -48,7 +51,7 @@ pub fn place_in(rulesets: &[u64], r: u64, ty: u64, key: u64) -> usize
 fn is_full(rulesets: &[u64], r: u64, ty: u64, key: u64) -> bool
     ensures { λ q. ⌜ q ≡ isFull (now (rulesets .entry)) r ty key ⌝ }
 {
-    let count = row_read(rulesets, RULESET_WIDTH, r as usize, 3);
+    let count = row_read(rulesets, RULESET_WIDTH, r as usize, RULESET_COUNT);
     if count > place_in(rulesets, r, ty, key) as u64 {
         return false;
     }
@@ -68,7 +71,7 @@ fn is_sweeping(e: u64, rights: Rights) -> bool
 fn path_form(entries: &[u64], rulesets: &[u64], r: u64, e: u64, rights: Rights) -> u64
     ensures { λ q. ⌜ q ≡ first (pathForm (now (entries .entry)) (now (rulesets .entry)) r e (rights .0)) ⌝ }
 {
-    let fs = Rights(row_read(rulesets, RULESET_WIDTH, r as usize, 0));
+    let fs = Rights(row_read(rulesets, RULESET_WIDTH, r as usize, RULESET_FS));
     if !fs.contains(rights) {
         return Errno::EINVAL.0;
     }
@@ -90,7 +93,7 @@ fn path_form(entries: &[u64], rulesets: &[u64], r: u64, e: u64, rights: Rights) 
 fn port_form(rulesets: &[u64], r: u64, port: u64, rights: Rights) -> u64
     ensures { λ q. ⌜ q ≡ first (portForm (now (rulesets .entry)) r port (rights .0)) ⌝ }
 {
-    let net = Rights(row_read(rulesets, RULESET_WIDTH, r as usize, 1));
+    let net = Rights(row_read(rulesets, RULESET_WIDTH, r as usize, RULESET_NET));
     if !net.contains(rights) {
         return Errno::EINVAL.0;
     }

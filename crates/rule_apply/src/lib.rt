@@ -10,6 +10,9 @@ use rule::add_port_checks;
 use rule::place_in;
 use tables::rows::PATH_RULE;
 use tables::rows::PORT_RULE;
+use tables::rows::RULE_RIGHTS;
+use tables::rows::RULE_WIDTH;
+use tables::rows::RULESET_COUNT;
 use tables::rows::RULESET_HEAD;
 use tables::rows::RULESET_WIDTH;
 use tables::rows::object_of;
@@ -24,7 +27,7 @@ fn join_rule(rulesets: &mut [u64], r: u64, i: usize, rights: Rights)
     requires { ⌜ i < 2 ^ 60 ⌝ }
     ensures { λ q. ⌜ now (rulesets .exit) ≡ joined (now (rulesets .entry)) r i (rights .0) ⌝ }
 {
-    let k = RULESET_HEAD + (3 * i + 2);
+    let k = RULESET_HEAD + (RULE_WIDTH * i + RULE_RIGHTS);
     let old = Rights(row_read(rulesets, RULESET_WIDTH, r as usize, k));
     let both = old.join(rights);
     row_write(rulesets, RULESET_WIDTH, r as usize, k, both.0);
@@ -38,7 +41,7 @@ fn append_rule(rulesets: &mut [u64], r: u64, i: u64, ty: u64, key: u64, rights: 
     row_write(rulesets, RULESET_WIDTH, r as usize, k, ty);
     row_write(rulesets, RULESET_WIDTH, r as usize, k + 1, key);
     row_write(rulesets, RULESET_WIDTH, r as usize, k + 2, rights.0);
-    row_write(rulesets, RULESET_WIDTH, r as usize, 3, i + 1);
+    row_write(rulesets, RULESET_WIDTH, r as usize, RULESET_COUNT, i + 1);
 }
 
 // Adds the rule: joins the rights of the one for the key, or appends a new one if there is room.
@@ -46,7 +49,7 @@ fn apply_add(rulesets: &mut [u64], r: u64, ty: u64, key: u64, rights: Rights)
     ensures { λ q. ⌜ now (rulesets .exit) ≡ added (now (rulesets .entry)) r ty key (rights .0) ⌝ }
 {
     let place = place_in(rulesets, r, ty, key);
-    let count = row_read(rulesets, RULESET_WIDTH, r as usize, 3);
+    let count = row_read(rulesets, RULESET_WIDTH, r as usize, RULESET_COUNT);
     if count > place as u64 {
         join_rule(rulesets, r, place, rights);
         return;

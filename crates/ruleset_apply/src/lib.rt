@@ -7,6 +7,9 @@ use cells::row_write;
 use ruleset::attribute::mask;
 use ruleset::create::create_checks;
 use ruleset::create::free_ruleset;
+use tables::rows::RULESET_FS;
+use tables::rows::RULESET_NET;
+use tables::rows::RULESET_SCOPE;
 use tables::rows::RULESET_WIDTH;
 use tables::rows::ruleset_open;
 ghost use mathlib.Core.Path.{_≡_};
@@ -20,9 +23,9 @@ ghost use Rattle.ruleset.specs.Create.{createChecks, opened, createDone, closeC
 fn apply_create(rulesets: &mut [u64], r: usize, bytes: &[u8])
     ensures { λ q. ⌜ now (rulesets .exit) ≡ opened (now (rulesets .entry)) r (fsMask (now (bytes .entry))) (netMask (now (bytes .entry))) (scopeMask (now (bytes .entry))) ⌝ }
 {
-    row_write(rulesets, RULESET_WIDTH, r, 0, mask(bytes, 0));
-    row_write(rulesets, RULESET_WIDTH, r, 1, mask(bytes, 8));
-    row_write(rulesets, RULESET_WIDTH, r, 2, mask(bytes, 16));
+    row_write(rulesets, RULESET_WIDTH, r, RULESET_FS, mask(bytes, 0));
+    row_write(rulesets, RULESET_WIDTH, r, RULESET_NET, mask(bytes, 8));
+    row_write(rulesets, RULESET_WIDTH, r, RULESET_SCOPE, mask(bytes, 16));
 }
 
 fn close_checks(

@@ -1,5 +1,6 @@
 // The soundness test of the tables: what every call does first.
 use access::limits::MAX_COUNTER;
+use access::limits::MAX_ENTRIES;
 use access::limits::MAX_LEVEL;
 use access::limits::MAX_RULESETS;
 use access::rights::Rights;
@@ -9,6 +10,10 @@ use sound_objects::rows_used;
 use sound_rulesets::rulesets_sound;
 use sound_runs::layers_sound;
 use tables::rows::RULESET_WIDTH;
+use tables::rows::SYSTEM_COUNTER;
+use tables::rows::SYSTEM_LAYERS;
+use tables::rows::SYSTEM_LEVEL;
+use tables::rows::SYSTEM_POOL;
 use tables::rows::handles_any;
 use tables::rows::lengths_right;
 ghost use mathlib.Core.Path.{_≡_};
@@ -23,10 +28,10 @@ fn system_sound(system: &[u64]) -> bool
     requires { ⌜ length (now system) ≡ systemWidth ⌝ }
     ensures { λ r. ⌜ r ≡ systemSound (now (system .entry)) ⌝ }
 {
-    if system[0] > MAX_LEVEL {
+    if system[SYSTEM_LEVEL] > MAX_LEVEL {
         return false;
     }
-    let next = system[1];
+    let next = system[SYSTEM_COUNTER];
     if next < 1 {
         return false;
     }
@@ -57,10 +62,10 @@ fn level_zero_sound(system: &[u64], rulesets: &[u64]) -> bool
     requires { ⌜ (length (now system) ≡ systemWidth) × (length (now rulesets) ≡ rulesetWidth * maxRulesets) ⌝ }
     ensures { λ r. ⌜ r ≡ levelZeroSound (now (system .entry)) (now (rulesets .entry)) ⌝ }
 {
-    if system[0] != 0 {
+    if system[SYSTEM_LEVEL] != 0 {
         return true;
     }
-    if system[2] != 0 {
+    if system[SYSTEM_LAYERS] != 0 {
         return false;
     }
     !any_open(rulesets)
@@ -78,9 +83,9 @@ fn parts_sound(
     requires { ⌜ lengthsRight (tables (now system) (now entries) (now rulesets) (now layers) (now pool) (now threads)) ≡ true ⌝ }
     ensures { λ r. ⌜ r ≡ partsSound (before system entries rulesets layers pool threads) ⌝ }
 {
-    let level = system[0];
-    let next = system[1];
-    let used = system[2];
+    let level = system[SYSTEM_LEVEL];
+    let next = system[SYSTEM_COUNTER];
+    let used = system[SYSTEM_LAYERS];
     if !system_sound(system) {
         return false;
     }
@@ -92,7 +97,7 @@ fn parts_sound(
     }
     let end = rows_used(entries);
     let mut heads = [0u64; 1024];
-    let mut links = [0u64; 1024];
+    let mut links = [0u64; MAX_ENTRIES];
     if !entries_sound(entries, end, next, &mut heads, &mut links) {
         return false;
     }
@@ -108,7 +113,7 @@ fn parts_sound(
         layers,
         pool,
         used,
-        system[3],
+        system[SYSTEM_POOL],
     )
 }
 

@@ -1,5 +1,7 @@
 // From every live entry a climb comes to entry 0.
 use access::limits::MAX_ENTRIES;
+use tables::rows::ENTRY_PARENT;
+use tables::rows::ENTRY_WIDTH;
 ghost use mathlib.Core.Path.{_≡_};
 ghost use mathlib.Core.Bool.{true};
 ghost use Prim.Native.Nat.{_+_, _*_, _<_};
@@ -28,7 +30,7 @@ fn climb_ends(entries: &[u64], marks: &mut [u64], e: usize) -> bool
             return mark != own;
         }
         marks[at] = own;
-        at = entries[3 * at + 1] as usize;
+        at = entries[ENTRY_WIDTH * at + ENTRY_PARENT] as usize;
         n -= 1;
     }
     at == 0
@@ -39,10 +41,10 @@ pub fn climbs_end(entries: &[u64], end: usize) -> bool
     requires { ⌜ Ends (now entries) end × ParentsLive (now entries) ⌝ }
     ensures { λ r. ⌜ r ≡ allBelow (liveClimbEnds (now (entries .entry))) maxEntries ⌝ }
 {
-    let mut marks = [0u64; 1024];
+    let mut marks = [0u64; MAX_ENTRIES];
     let mut e = 0;
     while e < end {
-        if entries[3 * e] != 0 {
+        if entries[ENTRY_WIDTH * e] != 0 {
             if !climb_ends(entries, &mut marks, e) {
                 return false;
             }

@@ -3,7 +3,10 @@ use access::limits::MAX_DOMAIN;
 use access::limits::MAX_LAYERS;
 use access::limits::MAX_THREADS;
 use tables::rows::LAYER_WIDTH;
+use tables::rows::THREAD_ADMIN;
+use tables::rows::THREAD_PRIVS;
 use tables::rows::THREAD_WIDTH;
+use tables::rows::THREAD_YOUNGEST;
 ghost use mathlib.Core.Path.{_≡_};
 ghost use Prim.Native.Nat.{_*_, _<_};
 ghost use lib.ListN.{length};
@@ -37,9 +40,9 @@ fn thread_sound(layers: &[u64], threads: &[u64], used: u64, t: usize) -> bool
 {
     let at = THREAD_WIDTH * t;
     let state = threads[at];
-    let youngest = threads[at + 1];
-    let privs = threads[at + 2];
-    let admin = threads[at + 3];
+    let youngest = threads[at + THREAD_YOUNGEST];
+    let privs = threads[at + THREAD_PRIVS];
+    let admin = threads[at + THREAD_ADMIN];
     if state == 0 {
         if youngest != 0 {
             return false;

@@ -6,6 +6,8 @@ use access::limits::MAX_THREADS;
 use cells::read;
 use cells::row_read;
 use sound_domains::threads_sound;
+use tables::rows::LAYER_HOLDERS;
+use tables::rows::LAYER_PARENT;
 use tables::rows::LAYER_WIDTH;
 use tables::rows::THREAD_WIDTH;
 ghost use mathlib.Core.Path.{_≡_};
@@ -77,13 +79,13 @@ fn place_sound(layers: &[u64], counts: &[u64], l: usize, d: u64) -> bool
     requires { ⌜ d ≡ depth (now layers) maxDomain (l + 1) ⌝ }
     ensures { λ r. ⌜ r ≡ placeCounted (now (layers .entry)) (now (counts .entry)) l ⌝ }
 {
-    if row_read(layers, LAYER_WIDTH, l, 0) > MAX_LAYERS as u64 {
+    if row_read(layers, LAYER_WIDTH, l, LAYER_PARENT) > MAX_LAYERS as u64 {
         return false;
     }
     if d > MAX_DOMAIN as u64 {
         return false;
     }
-    row_read(layers, LAYER_WIDTH, l, 6) == read(counts, l)
+    row_read(layers, LAYER_WIDTH, l, LAYER_HOLDERS) == read(counts, l)
 }
 
 fn places_sound(layers: &[u64], counts: &[u64]) -> bool

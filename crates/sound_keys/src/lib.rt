@@ -3,6 +3,8 @@ use access::rights::Rights;
 use bitmap::is_set;
 use bitmap::set_flag;
 use sound_rules::cells_sound;
+use tables::rows::RULE_KEY;
+use tables::rows::RULE_RIGHTS;
 use tables::rows::RULE_WIDTH;
 ghost use mathlib.Core.Path.{_≡_};
 ghost use mathlib.Core.Bool.{true};
@@ -19,10 +21,10 @@ fn same_key(rules: &[u64], j: usize, ty: u64, key: u64) -> bool
     requires { ⌜ j < ruleCount (now rules) ⌝ }
     ensures { λ r. ⌜ r ≡ keyIs (now (rules .entry)) j ty key ⌝ }
 {
-    if key != rules[3 * j + 1] {
+    if key != rules[RULE_WIDTH * j + RULE_KEY] {
         return false;
     }
-    ty == rules[3 * j]
+    ty == rules[RULE_WIDTH * j]
 }
 
 // No rule before rule `i` has its type and its key.
@@ -76,9 +78,9 @@ pub fn rules_sound(
     let mut seen = [0u64; 16];
     let mut i = 0;
     while i < n {
-        let ty = rules[3 * i];
-        let key = rules[3 * i + 1];
-        let rights = Rights(rules[3 * i + 2]);
+        let ty = rules[RULE_WIDTH * i];
+        let key = rules[RULE_WIDTH * i + RULE_KEY];
+        let rights = Rights(rules[RULE_WIDTH * i + RULE_RIGHTS]);
         if !cells_sound(entries, heads, links, next, fs, net, ty, key, rights) {
             return false;
         }

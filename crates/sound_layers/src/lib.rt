@@ -5,6 +5,12 @@ use access::rights::Rights;
 use sound_keys::rules_sound;
 use sound_rules::masks_known;
 use sound_zero::all_zero;
+use tables::rows::LAYER_COUNT;
+use tables::rows::LAYER_FIRST;
+use tables::rows::LAYER_FS;
+use tables::rows::LAYER_HOLDERS;
+use tables::rows::LAYER_NET;
+use tables::rows::LAYER_SCOPE;
 use tables::rows::LAYER_WIDTH;
 use tables::rows::RULE_WIDTH;
 use tables::rows::handles_any;
@@ -51,14 +57,14 @@ fn layer_sound(
     ensures { λ r. ⌜ r ≡ layerSound (now (entries .entry)) next level (now (layers .entry)) (now (pool .entry)) taken l ⌝ }
 {
     let at = LAYER_WIDTH * l;
-    let first = layers[at + 4];
-    let count = layers[at + 5];
+    let first = layers[at + LAYER_FIRST];
+    let count = layers[at + LAYER_COUNT];
     if !run_placed(first, count, taken) {
         return false;
     }
-    let fs = Rights(layers[at + 1]);
-    let net = Rights(layers[at + 2]);
-    let scope = Rights(layers[at + 3]);
+    let fs = Rights(layers[at + LAYER_FS]);
+    let net = Rights(layers[at + LAYER_NET]);
+    let scope = Rights(layers[at + LAYER_SCOPE]);
     if !handles_any(fs, net, scope) {
         return false;
     }
@@ -86,7 +92,7 @@ fn record_sound(
     ensures { λ r. ⌜ r ≡ recordSound (now (entries .entry)) next level (now (layers .entry)) (now (pool .entry)) taken l ⌝ }
 {
     let at = LAYER_WIDTH * l;
-    if layers[at + 6] == 0 {
+    if layers[at + LAYER_HOLDERS] == 0 {
         return all_zero(&layers[at..at + LAYER_WIDTH]);
     }
     layer_sound(entries, heads, links, next, level, layers, pool, taken, l)

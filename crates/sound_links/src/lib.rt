@@ -1,6 +1,8 @@
 // Entries of one object agree in kind, and a directory has one entry; the index of objects is filled in the same pass.
 use sound_objects::bucket_of;
 use tables::rows::DIRECTORY;
+use tables::rows::ENTRY_OBJECT;
+use tables::rows::ENTRY_WIDTH;
 ghost use mathlib.Core.Path.{_≡_};
 ghost use mathlib.Core.Bool.{true};
 ghost use Prim.Native.Nat.{_+_, _*_, _<_};
@@ -18,10 +20,10 @@ fn link_sound(entries: &[u64], k: u64, o: u64, f: usize) -> bool
     requires { ⌜ (length (now entries) ≡ entryWidth * maxEntries) × (f < maxEntries) ⌝ }
     ensures { λ r. ⌜ r ≡ cellsAgree k o (kind (now (entries .entry)) f) (object (now (entries .entry)) f) ⌝ }
 {
-    if o != entries[3 * f + 2] {
+    if o != entries[ENTRY_WIDTH * f + ENTRY_OBJECT] {
         return true;
     }
-    if k != entries[3 * f] {
+    if k != entries[ENTRY_WIDTH * f] {
         return false;
     }
     k != DIRECTORY
@@ -32,11 +34,11 @@ fn add_entry(entries: &[u64], heads: &mut [u64], links: &mut [u64], e: usize) ->
     requires { ⌜ ((length (now entries) ≡ entryWidth * maxEntries) × (e < maxEntries)) × IndexedBelow (now entries) (now heads) (now links) e ⌝ }
     ensures { λ r. ⌜ (r ≡ linksSound (now (entries .entry)) e) × (r ≡ true → IndexedBelow (now (entries .entry)) (now (heads .exit)) (now (links .exit)) (e + 1)) ⌝ }
 {
-    let kind = entries[3 * e];
+    let kind = entries[ENTRY_WIDTH * e];
     if kind == 0 {
         return true;
     }
-    let object = entries[3 * e + 2];
+    let object = entries[ENTRY_WIDTH * e + ENTRY_OBJECT];
     let b = bucket_of(object);
     let head = heads[b];
     let mut at = head;

@@ -1,6 +1,9 @@
 // The rows of the entries, each by itself: the root, free rows, kinds, parents and objects.
 use access::limits::MAX_ENTRIES;
 use tables::rows::DIRECTORY;
+use tables::rows::ENTRY_OBJECT;
+use tables::rows::ENTRY_PARENT;
+use tables::rows::ENTRY_WIDTH;
 ghost use mathlib.Core.Path.{_≡_};
 ghost use mathlib.Core.Bool.{true};
 ghost use Prim.Native.Nat.{_+_, _*_, _<_};
@@ -30,9 +33,9 @@ fn row_sound(entries: &[u64], next: u64, e: usize) -> bool
     requires { ⌜ (length (now entries) ≡ entryWidth * maxEntries) × (e < maxEntries) ⌝ }
     ensures { λ r. ⌜ r ≡ rowSound (now (entries .entry)) next e ⌝ }
 {
-    let kind = entries[3 * e];
-    let parent = entries[3 * e + 1] as usize;
-    let object = entries[3 * e + 2];
+    let kind = entries[ENTRY_WIDTH * e];
+    let parent = entries[ENTRY_WIDTH * e + ENTRY_PARENT] as usize;
+    let object = entries[ENTRY_WIDTH * e + ENTRY_OBJECT];
     if kind == 0 {
         if parent != 0 {
             return false;
@@ -45,7 +48,7 @@ fn row_sound(entries: &[u64], next: u64, e: usize) -> bool
     if parent >= MAX_ENTRIES {
         return false;
     }
-    if entries[3 * parent] != DIRECTORY {
+    if entries[ENTRY_WIDTH * parent] != DIRECTORY {
         return false;
     }
     object < next

@@ -3,6 +3,8 @@ use access::limits::MAX_PORT;
 use access::rights::Rights;
 use sound_objects::bucket_of;
 use tables::rows::DIRECTORY;
+use tables::rows::ENTRY_OBJECT;
+use tables::rows::ENTRY_WIDTH;
 use tables::rows::PATH_RULE;
 use tables::rows::PORT_RULE;
 ghost use mathlib.Core.Path.{_≡_};
@@ -19,10 +21,10 @@ fn is_file_of(entries: &[u64], object: u64, e: usize) -> bool
     requires { ⌜ (length (now entries) ≡ entryWidth * maxEntries) × (e < maxEntries) ⌝ }
     ensures { λ r. ⌜ r ≡ isFileOf (now (entries .entry)) object e ⌝ }
 {
-    if entries[3 * e + 2] != object {
+    if entries[ENTRY_WIDTH * e + ENTRY_OBJECT] != object {
         return false;
     }
-    let kind = entries[3 * e];
+    let kind = entries[ENTRY_WIDTH * e];
     if kind == 0 {
         return false;
     }

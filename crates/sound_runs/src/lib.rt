@@ -5,6 +5,9 @@ use access::limits::MAX_POOL;
 use bitmap::take_run;
 use sound_layers::each_sound;
 use sound_zero::all_zero;
+use tables::rows::LAYER_COUNT;
+use tables::rows::LAYER_FIRST;
+use tables::rows::LAYER_HOLDERS;
 use tables::rows::LAYER_WIDTH;
 use tables::rows::POOL_CELLS;
 use tables::rows::RULE_WIDTH;
@@ -27,8 +30,8 @@ fn runs_sound(layers: &[u64]) -> bool
     let mut l = 0;
     while l < MAX_LAYERS {
         let at = LAYER_WIDTH * l;
-        let first = layers[at + 4] as usize;
-        let count = layers[at + 5] as usize;
+        let first = layers[at + LAYER_FIRST] as usize;
+        let count = layers[at + LAYER_COUNT] as usize;
         if take_run(&mut taken, first, count) {
             l += 1;
         } else {
@@ -46,7 +49,7 @@ fn layers_counted(layers: &[u64], used: u64) -> bool
     let mut n: u64 = 0;
     let mut l = 0;
     while l < MAX_LAYERS {
-        if layers[LAYER_WIDTH * l + 6] != 0 {
+        if layers[LAYER_WIDTH * l + LAYER_HOLDERS] != 0 {
             n += 1;
         }
         l += 1;
@@ -62,7 +65,7 @@ fn pool_filled(layers: &[u64], taken: u64) -> bool
     let mut n: u64 = 0;
     let mut l = 0;
     while l < MAX_LAYERS {
-        n += layers[LAYER_WIDTH * l + 5];
+        n += layers[LAYER_WIDTH * l + LAYER_COUNT];
         l += 1;
     }
     taken == n

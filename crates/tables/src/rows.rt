@@ -41,6 +41,58 @@ pub const POOL_CELLS: usize = RULE_WIDTH * MAX_POOL;
 
 pub const THREADS_CELLS: usize = THREAD_WIDTH * MAX_THREADS;
 
+// The cells of the system's row.
+pub const SYSTEM_LEVEL: usize = 0;
+
+pub const SYSTEM_COUNTER: usize = 1;
+
+pub const SYSTEM_LAYERS: usize = 2;
+
+pub const SYSTEM_POOL: usize = 3;
+
+// The cells of an entry's row; its kind is the first.
+pub const ENTRY_PARENT: usize = 1;
+
+pub const ENTRY_OBJECT: usize = 2;
+
+// The cells of a rule; its type is the first.
+pub const RULE_KEY: usize = 1;
+
+pub const RULE_RIGHTS: usize = 2;
+
+// The cells of a ruleset's row.
+pub const RULESET_FS: usize = 0;
+
+pub const RULESET_NET: usize = 1;
+
+pub const RULESET_SCOPE: usize = 2;
+
+pub const RULESET_COUNT: usize = 3;
+
+// The cells of a layer's row.
+pub const LAYER_PARENT: usize = 0;
+
+pub const LAYER_FS: usize = 1;
+
+pub const LAYER_NET: usize = 2;
+
+pub const LAYER_SCOPE: usize = 3;
+
+pub const LAYER_FIRST: usize = 4;
+
+pub const LAYER_COUNT: usize = 5;
+
+pub const LAYER_HOLDERS: usize = 6;
+
+// The cells of a thread's row.
+pub const THREAD_STATE: usize = 0;
+
+pub const THREAD_YOUNGEST: usize = 1;
+
+pub const THREAD_PRIVS: usize = 2;
+
+pub const THREAD_ADMIN: usize = 3;
+
 // The types of rules.
 pub const PATH_RULE: u64 = 1;
 
@@ -81,25 +133,25 @@ pub fn lengths_right(
 pub fn level_of(system: &[u64]) -> u64
     ensures { λ r. ⌜ r ≡ level (now (system .entry)) ⌝ }
 {
-    read(system, 0)
+    read(system, SYSTEM_LEVEL)
 }
 
 pub fn counter_of(system: &[u64]) -> u64
     ensures { λ r. ⌜ r ≡ counter (now (system .entry)) ⌝ }
 {
-    read(system, 1)
+    read(system, SYSTEM_COUNTER)
 }
 
 pub fn layers_used(system: &[u64]) -> u64
     ensures { λ r. ⌜ r ≡ layersUsed (now (system .entry)) ⌝ }
 {
-    read(system, 2)
+    read(system, SYSTEM_LAYERS)
 }
 
 pub fn pool_used(system: &[u64]) -> u64
     ensures { λ r. ⌜ r ≡ poolUsed (now (system .entry)) ⌝ }
 {
-    read(system, 3)
+    read(system, SYSTEM_POOL)
 }
 
 // Cell `k` of an entry.
@@ -174,9 +226,9 @@ pub fn handles_any(fs: Rights, net: Rights, scope: Rights) -> bool
 pub fn ruleset_open(rulesets: &[u64], r: u64) -> bool
     ensures { λ q. ⌜ q ≡ isOpen (now (rulesets .entry)) r ⌝ }
 {
-    let fs = row_read(rulesets, RULESET_WIDTH, r as usize, 0);
-    let net = row_read(rulesets, RULESET_WIDTH, r as usize, 1);
-    let scope = row_read(rulesets, RULESET_WIDTH, r as usize, 2);
+    let fs = row_read(rulesets, RULESET_WIDTH, r as usize, RULESET_FS);
+    let net = row_read(rulesets, RULESET_WIDTH, r as usize, RULESET_NET);
+    let scope = row_read(rulesets, RULESET_WIDTH, r as usize, RULESET_SCOPE);
     handles_any(Rights(fs), Rights(net), Rights(scope))
 }
 
@@ -184,18 +236,18 @@ pub fn ruleset_open(rulesets: &[u64], r: u64) -> bool
 pub fn layer_in_use(layers: &[u64], l: u64) -> bool
     ensures { λ r. ⌜ r ≡ layerInUse (now (layers .entry)) l ⌝ }
 {
-    row_read(layers, LAYER_WIDTH, l as usize, 6) != 0
+    row_read(layers, LAYER_WIDTH, l as usize, LAYER_HOLDERS) != 0
 }
 
 pub fn thread_live(threads: &[u64], t: u64) -> bool
     ensures { λ r. ⌜ r ≡ threadLive (now (threads .entry)) t ⌝ }
 {
-    row_read(threads, THREAD_WIDTH, t as usize, 0) != 0
+    row_read(threads, THREAD_WIDTH, t as usize, THREAD_STATE) != 0
 }
 
 // The thread's youngest layer: its number + 1, or 0 for none.
 pub fn youngest_of(threads: &[u64], t: u64) -> u64
     ensures { λ r. ⌜ r ≡ youngest (now (threads .entry)) t ⌝ }
 {
-    row_read(threads, THREAD_WIDTH, t as usize, 1)
+    row_read(threads, THREAD_WIDTH, t as usize, THREAD_YOUNGEST)
 }

@@ -7,6 +7,7 @@ use access::limits::MAX_ENTRIES;
 use cells::write;
 use fs::needs::make_of;
 use fs_access::is_denied;
+use tables::rows::SYSTEM_COUNTER;
 use tables::rows::counter_of;
 use tables::rows::entry_live;
 use tables::rows::is_dir;
@@ -143,7 +144,7 @@ fn apply_create(
     ensures { λ r. ⌜ after system entries rulesets layers pool threads ≡ treeCreated (before system entries rulesets layers pool threads) d k ⌝ }
 {
     let object = counter_of(system);
-    write(system, 1, object + 1);
+    write(system, SYSTEM_COUNTER, object + 1);
     put_entry(entries, e, k, d, object);
 }
 

@@ -1,8 +1,8 @@
 //! Damaged variants of sound tables.
 
-use crate::inputs::Random;
 use crate::landlock::OBJECTS_END;
 use crate::tables::{Tables, HOLDERS};
+use random::Random;
 use skeinrabbit_sys::layout::{LAYER_WIDTH, MAX_DOMAIN, RULE_WIDTH, WIDTHS};
 
 /// The tables with one or two cells changed, or with a table of wrong length.

@@ -5,6 +5,7 @@ use crate::landlock::{
     REFER, REGULAR, REMOVE_FILE,
 };
 use crate::tables::{Tables, HOLDERS};
+use random::Random;
 use skeinrabbit_sys::layout::{
     ENTRY_WIDTH, MAX_DOMAIN, MAX_ENTRIES, MAX_LAYERS, MAX_POOL, MAX_RULES, MAX_RULESETS,
     MAX_THREADS, RULESET_HEAD, RULESET_WIDTH, RULE_WIDTH,
@@ -22,30 +23,6 @@ pub enum Refer {
     InPlaces,
     /// Nowhere: they don't ask for it, and deny it therefore.
     Nowhere,
-}
-
-/// Pseudo-random numbers (SplitMix64).
-pub struct Random(u64);
-
-impl Random {
-    pub fn new(seed: u64) -> Random {
-        Random(seed)
-    }
-
-    pub fn number(&mut self) -> u64 {
-        self.0 = self.0.wrapping_add(0x9e37_79b9_7f4a_7c15);
-        let z = (self.0 ^ (self.0 >> 30)).wrapping_mul(0xbf58_476d_1ce4_e5b9);
-        let z = (z ^ (z >> 27)).wrapping_mul(0x94d0_49bb_1331_11eb);
-        z ^ (z >> 31)
-    }
-
-    pub fn below(&mut self, limit: u64) -> u64 {
-        self.number() % limit
-    }
-
-    pub fn pick<T: Copy>(&mut self, items: &[T]) -> T {
-        items[self.below(items.len() as u64) as usize]
-    }
 }
 
 /// The number of different questions, a power of two.

@@ -2,10 +2,10 @@
 
 use crate::broker::Broker;
 use crate::machine::Machine;
-use crate::random::Random;
 use crate::rights::*;
 use model::call::Call;
 use model::state::{MAX_ENTRIES, MAX_RULESETS};
+use random::Random;
 
 /// Ports above the ephemeral ones, and port 0.
 pub const PORTS: [u64; 5] = [0, 61_001, 61_002, 61_003, 65_535];
@@ -60,7 +60,7 @@ impl Generator<'_> {
 
     /// A call that lets the tree grow.
     pub fn growth(&mut self) -> Call {
-        if self.random.percent(85) {
+        if self.random.chance(85) {
             self.create()
         } else {
             self.link()
@@ -75,7 +75,7 @@ impl Generator<'_> {
             .copied()
             .filter(|&thread| self.tables.is_restricted(thread))
             .collect();
-        if !restricted.is_empty() && self.random.percent(85) {
+        if !restricted.is_empty() && self.random.chance(85) {
             self.random.pick(&restricted)
         } else {
             self.random.pick(&live)
@@ -84,7 +84,7 @@ impl Generator<'_> {
 
     /// A live entry, or now and then one that is not.
     fn entry(&mut self) -> u64 {
-        if self.random.percent(2) {
+        if self.random.chance(2) {
             self.absent_entry()
         } else {
             self.random.pick(&self.tables.live_entries())
@@ -92,7 +92,7 @@ impl Generator<'_> {
     }
 
     fn absent_entry(&mut self) -> u64 {
-        if self.random.percent(50) {
+        if self.random.chance(50) {
             MAX_ENTRIES + self.random.below(3)
         } else {
             self.tables.live_entries().len() as u64 + 500
@@ -101,12 +101,12 @@ impl Generator<'_> {
 
     /// Most often a directory, and seldom the root: no rule lets a thread change it.
     fn directory(&mut self) -> u64 {
-        if self.random.percent(6) {
+        if self.random.chance(6) {
             return self.entry();
         }
         let mut live = self.tables.live_entries();
         live.retain(|&entry| self.tables.is_directory(entry));
-        if live.len() > 1 && self.random.percent(80) {
+        if live.len() > 1 && self.random.chance(80) {
             live.retain(|&entry| entry != 0);
         }
         self.random.pick(&live)
@@ -138,7 +138,7 @@ impl Generator<'_> {
             REGULAR => self.rights_of_regular(),
             CHARACTER => self.rights_of_device(),
             FIFO | SOCKET => self.rights_of_pipe(),
-            SYMLINK if self.random.percent(90) => return self.rename(),
+            SYMLINK if self.random.chance(90) => return self.rename(),
             BLOCK => return self.rename(),
             _ => READ_FILE,
         };
@@ -220,7 +220,7 @@ impl Generator<'_> {
 
     fn link(&mut self) -> Call {
         let mut source = self.entry();
-        if self.tables.is_directory(source) && self.random.percent(80) {
+        if self.tables.is_directory(source) && self.random.chance(80) {
             source = self.entry();
         }
         Call::Link {
@@ -234,7 +234,7 @@ impl Generator<'_> {
     fn rename(&mut self) -> Call {
         let mut directory = self.directory();
         let (mut replaces, mut replaced) = (0, 0);
-        if self.random.percent(50) {
+        if self.random.chance(50) {
             let entry = self.entry();
             if self.tables.is_live(entry) {
                 directory = self.directory_of(entry, directory);
@@ -307,7 +307,7 @@ impl Generator<'_> {
                 bytes[last] = 1;
             }
         }
-        let flags = if self.random.percent(4) {
+        let flags = if self.random.chance(4) {
             self.random.pick(&[1, 2, 3, 1 << 31])
         } else {
             0
@@ -317,7 +317,7 @@ impl Generator<'_> {
 
     /// A bit that no kernel knows, now and then, for a mask that the level has.
     fn unknown_bit(&mut self, known: u64) -> u64 {
-        if known != 0 && self.random.percent(40) {
+        if known != 0 && self.random.chance(40) {
             1 << self.random.between(40, 63)
         } else {
             0
@@ -327,7 +327,7 @@ impl Generator<'_> {
     /// An open ruleset, or now and then one that is not.
     fn ruleset(&mut self) -> u64 {
         let open = self.tables.open_rulesets();
-        if open.is_empty() || self.random.percent(4) {
+        if open.is_empty() || self.random.chance(4) {
             self.random
                 .pick(&[MAX_RULESETS - 1, MAX_RULESETS, u64::MAX])
         } else {
@@ -374,7 +374,7 @@ impl Generator<'_> {
     /// that we do not.
     fn handled_at(&mut self, ruleset: u64, entry: u64) -> u64 {
         let handled = self.tables.handled(ruleset)[0];
-        if entry == 0 && !self.random.percent(2) {
+        if entry == 0 && !self.random.chance(2) {
             handled & !CHANGING
         } else {
             handled
@@ -389,7 +389,7 @@ impl Generator<'_> {
             90..95 => self.random.below(4),
             _ => 1 << self.random.between(2, 63),
         };
-        let port = if self.random.percent(5) {
+        let port = if self.random.chance(5) {
             self.random.pick(&[65_536, 1 << 32, u64::MAX])
         } else {
             self.random.pick(&PORTS)
@@ -403,7 +403,7 @@ impl Generator<'_> {
     }
 
     fn rule_flags(&mut self) -> u64 {
-        if self.random.percent(2) {
+        if self.random.chance(2) {
             self.random.pick(&UNKNOWN_FLAGS)
         } else {
             0
@@ -437,10 +437,10 @@ impl Generator<'_> {
 
     fn mark(&mut self) -> Call {
         let thread = self.thread();
-        if self.machine.admin && self.random.percent(60) {
+        if self.machine.admin && self.random.chance(60) {
             Call::SetAdmin {
                 thread,
-                on: self.random.percent(50).into(),
+                on: self.random.chance(50).into(),
             }
         } else {
             Call::SetNoNewPrivs { thread }

@@ -14,7 +14,6 @@ mod limits;
 mod machine;
 mod operation;
 mod orders;
-mod random;
 mod rights;
 mod scenario;
 mod sys;

@@ -8,12 +8,12 @@ use crate::kernel::{kind_of, Kernel};
 use crate::limits;
 use crate::machine::Machine;
 use crate::orders;
-use crate::random::Random;
 use crate::rights::{outcome, DIRECTORY};
 use crate::tally::Tally;
 use model::call::Call;
 use model::refusal::returned;
 use model::state::Model;
+use random::Random;
 use std::collections::{BTreeMap, BTreeSet};
 use std::fs;
 use std::os::unix::fs::MetadataExt;
@@ -41,7 +41,7 @@ impl<'a> Scenario<'a> {
     pub fn new(seed: u64, root: &str, machine: &'a Machine, tally: &'a mut Tally) -> Scenario<'a> {
         let mut random = Random::new(seed);
         let top = machine.top_level();
-        let level = if random.percent(75) {
+        let level = if random.chance(75) {
             top
         } else {
             random.between(1, top)
@@ -114,7 +114,7 @@ impl<'a> Scenario<'a> {
             self.ask_any(|g| g.add_port_rule())?;
         }
         self.ask(Call::Clone { thread: 0 })?;
-        if self.random.percent(90) {
+        if self.random.chance(90) {
             self.ask(Call::SetNoNewPrivs { thread: 1 })?;
         }
         for ruleset in self.tables.open_rulesets() {

@@ -1,9 +1,9 @@
 //! Attributes of every length for `create_ruleset`.
 
 use crate::call::Call;
-use crate::random::Random;
 use crate::rulesets::known_size;
 use crate::start::masks;
+use random::Random;
 
 /// The longest attribute, in bytes.
 pub const LONGEST: usize = 4200;

@@ -5,13 +5,13 @@ use crate::call::{Broker, Call, Reply};
 use crate::damage::{pokes, undo, Poke};
 use crate::generate::{call, every_call, Mix};
 use crate::odd::{random_cells, wrong_lengths, Odd};
-use crate::random::Random;
 use crate::reference::Reference;
 use crate::refusal::Answer;
 use crate::start::start;
 use crate::state::{Model, LAST_LEVEL};
 use crate::tables::{encode, Table, Tables};
 use crate::tally::Tally;
+use random::Random;
 use std::time::{Duration, Instant};
 
 /// One thing that happens to both sides.

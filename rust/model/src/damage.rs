@@ -1,8 +1,8 @@
 //! Random damage to the cells of sound tables.
 
-use crate::random::Random;
 use crate::state::{Model, MAX_LAYERS, MAX_RULES, POOL_PLACES};
 use crate::tables::{Table, Tables, HOLDERS, RULESET_HEAD, RULE_WIDTH};
+use random::Random;
 
 /// A change of one cell.
 #[derive(Clone, Copy, PartialEq, Eq, Debug)]

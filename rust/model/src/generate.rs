@@ -1,11 +1,11 @@
 //! Random calls, with arguments that mostly name live things.
 
 use crate::call::Call;
-use crate::random::Random;
 use crate::rights::{Masks, Rights};
 use crate::rulesets::known_size;
 use crate::start::{masks, some_of};
 use crate::state::{Key, Model, MAX_ENTRIES, MAX_RULESETS, MAX_THREADS, ROOT};
+use random::Random;
 
 /// Which calls are made most.
 #[derive(Clone, Copy)]

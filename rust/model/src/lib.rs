@@ -16,7 +16,6 @@ pub mod long_run;
 pub mod odd;
 #[cfg(feature = "core")]
 pub mod proved;
-pub mod random;
 pub mod reference;
 pub mod refusal;
 pub mod rights;

@@ -3,11 +3,11 @@
 
 use crate::call::{Broker, Call, Reply};
 use crate::compare::{Case, Step};
-use crate::random::Random;
 use crate::refusal::Refusal;
 use crate::state::{Model, MAX_LAYERS, MAX_THREADS, POOL_PLACES};
 use crate::tables::{encode, Tables};
 use crate::tally::Tally;
+use random::Random;
 
 /// The calls between two comparisons of all cells.
 const SPAN: usize = 100;

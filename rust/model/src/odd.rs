@@ -2,8 +2,8 @@
 
 use crate::compare::Step;
 use crate::damage::Poke;
-use crate::random::Random;
 use crate::tables::Table;
+use random::Random;
 
 /// What is odd about tables.
 #[derive(Clone, Copy, PartialEq, Eq, PartialOrd, Ord, Debug)]

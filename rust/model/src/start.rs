@@ -1,11 +1,11 @@
 //! Random sound tables to start from: small ones, deep ones, and nearly full ones.
 
-use crate::random::Random;
 use crate::rights::{Masks, Rights};
 use crate::state::{
     Entry, Key, Kind, Layer, Model, Rules, Ruleset, Thread, LAST_LEVEL, MAX_DOMAIN, MAX_LAYERS,
     MAX_RULES, MAX_RULESETS, MAX_THREADS, OBJECTS_END, POOL_PLACES, ROOT,
 };
+use random::Random;
 
 /// Random sound tables.
 pub fn start(random: &mut Random) -> Model {

@@ -4,7 +4,6 @@ mod verdict;
 
 use model::call::{Broker, Call};
 use model::proved::Both;
-use model::random::Random;
 use model::refusal::Errno;
 use model::rights::Rights;
 use model::sound::Unsound::{self, *};
@@ -13,6 +12,7 @@ use model::start::start;
 use model::state::{Layer, Model};
 use model::tables::Table::{self, *};
 use model::tables::{encode, Tables};
+use random::Random;
 
 /// The cells of a row.
 const RULESET: usize = Rulesets.width();

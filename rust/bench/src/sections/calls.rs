@@ -2,13 +2,14 @@
 
 use super::verdicts::access_request;
 use super::{policies, sound_tables};
-use crate::inputs::{self, Questions, Random};
+use crate::inputs::{self, Questions};
 use crate::landlock::{DIRECTORY, REGULAR};
 use crate::measure::{against, differ, duration, line, table, time, Effort, Side};
 use crate::plain::broker::Broker;
 use crate::plain::soundness::{is_sound, Buckets, Pairwise};
 use crate::plain::verdict::rename_verdict;
 use crate::tables::Tables;
+use random::Random;
 
 /// All calls are those of thread 0, but for ends, which are of thread 1.
 const THREAD: u64 = 0;

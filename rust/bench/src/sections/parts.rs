@@ -1,10 +1,11 @@
 //! The rule scan and the climb.
 
 use crate::core;
-use crate::inputs::{Questions, Random, QUESTIONS};
+use crate::inputs::{Questions, QUESTIONS};
 use crate::landlock::{DIRECTORY, PATH_RULE, REMOVE_DIR};
 use crate::measure::{against, agree, line, table, time, Effort, Side};
 use crate::plain::verdict;
+use random::Random;
 use skeinrabbit_sys::layout::{ENTRY_WIDTH, MAX_ENTRIES};
 
 pub fn run(effort: Effort) {

@@ -3,10 +3,10 @@
 use super::sound_tables;
 use crate::core;
 use crate::damage::{at_limits, damaged};
-use crate::inputs::Random;
 use crate::measure::{against, differ, duration, line, table, time, Effort};
 use crate::plain::soundness::{is_sound, Buckets, Pairwise};
 use crate::tables::Tables;
+use random::Random;
 
 pub fn run(effort: Effort) {
     let inputs = sound_tables();

@@ -2,13 +2,14 @@
 
 use super::policies;
 use crate::core;
-use crate::inputs::{self, Questions, Random, Refer, QUESTIONS};
+use crate::inputs::{self, Questions, Refer, QUESTIONS};
 use crate::landlock::{held_rights, DIRECTORY};
 use crate::measure::{against, agree, line, table, time, Effort, Side};
 use crate::plain::broker::is_above;
 use crate::plain::own::Policy;
 use crate::plain::verdict;
 use crate::tables::Tables;
+use random::Random;
 
 /// All requests are those of thread 0.
 const THREAD: u64 = 0;

@@ -1,0 +1,3 @@
+-- The laws of a domain's verdict.
+pub mod Denials
+pub mod Answers

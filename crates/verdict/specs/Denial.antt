@@ -1,0 +1,53 @@
+-- The verdict of a domain on a question: which layer denies it, and what.
+use mathlib.Core.Bool.{Bool, true, false, cond}
+use mathlib.Core.List.{List, [], _∷_}
+use Prim.Native.Nat.{ℕ, zero, suc}
+use lib.Dec.{eqb}
+use Rattle.access.specs.Errno.{EACCES, EXDEV}
+use Rattle.tables.specs.Layers.{layerAt}
+use Rattle.judge.specs.Judge.{missing, portMissing}
+use Rattle.fs.specs.Move.{deniedNeeds, crossing}
+use Rattle.verdict.specs.declared.Question.{Question}
+use Rattle.verdict.specs.declared.Question.the-variants.{Entry, Port, Move}
+use Rattle.verdict.specs.declared.Denial.{Denial}
+use Rattle.verdict.specs.declared.Denial.the-variants.{None, Denied, Crossed}
+
+-- what layer l denies: of the rights asked for, or of a move's needs other than REFER
+unfoldable pub deniedBy : List ℕ → List ℕ → List ℕ → Question → ℕ → ℕ
+deniedBy es ls ps (Entry e m) l = missing es (layerAt ls ps l) e (m .0)
+deniedBy es ls ps (Port p m) l = portMissing (layerAt ls ps l) p (m .0)
+deniedBy es ls ps (Move m) l = deniedNeeds es (layerAt ls ps l) m
+
+-- what layer l holds against a move between two directories: REFER, and the rights that fail containment
+unfoldable pub crossedBy : List ℕ → List ℕ → List ℕ → Question → ℕ → ℕ
+crossedBy es ls ps (Entry e m) l = 0
+crossedBy es ls ps (Port p m) l = 0
+crossedBy es ls ps (Move m) l = crossing es (layerAt ls ps l) m
+
+-- the first crossing that was met: its layer (the number + 1, or 0 for none) and its set
+abbrev pub keptAt : ℕ → ℕ → ℕ → ℕ
+keptAt k at b = cond (eqb k 0) (cond (eqb b 0) 0 at) k
+
+abbrev pub keptSet : ℕ → ℕ → ℕ → ℕ
+keptSet k set b = cond (eqb k 0) b set
+
+unfoldable pub crossedAt : ℕ → ℕ → Denial
+crossedAt zero set = None
+crossedAt (suc l) set = Crossed l (record { 0 = set })
+
+-- the youngest layer of a domain whose set a is not empty, with that set; else the first crossing, met before (k, set) or now, of the sets b
+unfoldable pub denial : (ℕ → ℕ) → (ℕ → ℕ) → ℕ → ℕ → List ℕ → Denial
+denial a b k set [] = crossedAt k set
+denial a b k set (l ∷ D) = let r = denial a b (keptAt k (suc l) (b l)) (keptSet k set (b l)) D in cond (eqb (a l) 0) r (Denied l (record { 0 = a l }))
+
+-- some layer denies a right that was asked for, or a need
+unfoldable pub isDenied : Denial → Bool
+isDenied None = false
+isDenied (Denied l s) = true
+isDenied (Crossed l s) = false
+
+-- "A denied need other than REFER is EACCES; else denied REFER or failed containment is EXDEV"
+unfoldable pub refusalOf : Denial → ℕ
+refusalOf None = 0
+refusalOf (Denied l s) = EACCES
+refusalOf (Crossed l s) = EXDEV

@@ -1,0 +1,2 @@
+-- What a domain answers to a question.
+pub mod Denial
