@@ -8,7 +8,7 @@ use lib.Arith.{bin-ind}
 use lib.Dec.{eqb}
 use lib.Bits.{bitAnd, bitOr, bitXor, differ, and-step, or-step, xor-step, and-shr, or-shr, xor-shr}
 use borrow.Author.Tests.{eqb-true, eq-eqb, eqb-false}
-use Rattle.laws.proofs.Bools.{split, either, or-cases, or-left, clash}
+use Rattle.laws.proofs.Bools.{split, either, and-l, or-cases, or-left, clash}
 use Rattle.access.specs.Rights.{has, join, meet, without, within, only}
 
 -- an operation f on digits does what g does on Booleans
@@ -109,11 +109,7 @@ ext-has a b h = ext-bit a b (λ i. from-has a b i (h i))
 
 -- containment, right by right
 pub within-has : (a b i : ℕ) → within a b ≡ true → has a i ≡ true → has b i ≡ true
-within-has a b i w h = both (has b i) (has a i) (sym (has-meet b a i) ∙ ap (λ (m : ℕ). has m i) (eqb-true (meet b a) a w) ∙ h)
-  where
-    both : (p q : Bool) → (p && q) ≡ true → p ≡ true
-    both true q e = refl
-    both false q e = e
+within-has a b i w h = and-l (has b i) (has a i) (sym (has-meet b a i) ∙ ap (λ (m : ℕ). has m i) (eqb-true (meet b a) a w) ∙ h)
 
 pub has-within : (a b : ℕ) → ((i : ℕ) → has a i ≡ true → has b i ≡ true) → within a b ≡ true
 has-within a b h = eq-eqb (meet b a) a (ext-has (meet b a) a (λ i. has-meet b a i ∙ absorb (has b i) (has a i) (h i)))

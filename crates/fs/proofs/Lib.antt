@@ -1,3 +1,2 @@
 -- The laws of moves.
-pub mod Moves
 pub mod Against

@@ -1,4 +1,3 @@
 -- The laws of a judgement.
 pub mod Climbs
-pub mod Chains
 pub mod Laws

@@ -2,3 +2,4 @@
 pub mod Outcomes
 pub mod Lengths
 pub mod Freshness
+pub mod Layers

@@ -1,6 +1,6 @@
 -- What a denial says of the domain: the definitions of access, port and move follow from it. Assumes nothing.
 use mathlib.Core.Path.{_≡_, refl, sym, ap, _∙_}
-use mathlib.Core.Bool.{Bool, true, false, cond, not, _||_, or-false, or-assoc}
+use mathlib.Core.Bool.{Bool, false, cond, not, _||_, or-false, or-assoc}
 use mathlib.Core.List.{List, [], _∷_}
 use Prim.Native.Nat.{ℕ, zero, suc}
 use native.Mathlib.Omega.{arith}
@@ -11,7 +11,7 @@ use Rattle.laws.specs.Refusals.{_⇒_, first}
 use Rattle.laws.proofs.Bools.{split}
 use Rattle.access.specs.Errno.{EACCES, EXDEV}
 use Rattle.access.specs.declared.rights.Rights.{Rights}
-use Rattle.judge.specs.Domain.{layerLacks, lacks, layerPortLacks, portLacks}
+use Rattle.judge.specs.Domain.{chain, layerLacks, lacks, layerPortLacks, portLacks}
 use Rattle.fs.specs.declared.verdict.Move.{Move}
 use Rattle.fs.specs.Move.{layerDenies, layerCrosses, verdict}
 use Rattle.verdict.specs.declared.Denial.{Denial}
@@ -70,3 +70,25 @@ module _ (es ls ps D : List ℕ) where
   pub verdict-is : (m : Move) {d : Denial} {r : ℕ} → d ≡ denial (deniedBy es ls ps (Moved m)) (crossedBy es ls ps (Moved m)) 0 0 D → r ≡ refusalOf d → r ≡ first (verdict es ls ps D m)
   unfolding verdict layerDenies layerCrosses deniedBy crossedBy
   verdict-is m h k = k ∙ ap refusalOf h ∙ refused-any (deniedBy es ls ps (Moved m)) (crossedBy es ls ps (Moved m)) 0 0 D
+
+-- ---- a domain without a layer
+module _ (es ls ps : List ℕ) (n y : ℕ) (none : y ≡ 0) where
+  no-layer : chain ls n y ≡ []
+  unfolding chain
+  no-layer = rw none (empty n)
+    where
+      empty : (k : ℕ) → chain ls k 0 ≡ []
+      empty zero = refl
+      empty (suc k) = refl
+
+  pub lacks-none : (e m : ℕ) → false ≡ lacks es ls ps (chain ls n y) e m
+  unfolding lacks any
+  lacks-none e m = rw no-layer refl
+
+  pub port-lacks-none : (p m : ℕ) → false ≡ portLacks ls ps (chain ls n y) p m
+  unfolding portLacks any
+  port-lacks-none p m = rw no-layer refl
+
+  pub verdict-none : (m : Move) → 0 ≡ first (verdict es ls ps (chain ls n y) m)
+  unfolding verdict any first
+  verdict-none m = rw no-layer refl

@@ -129,7 +129,8 @@ fn refusal_of(d: Denial) -> u64
     }
 }
 
-// Some layer of the domain whose youngest layer is `y` (its number + 1, or 0) denies one of the rights asked for at the entry.
+// Some layer of the domain whose youngest layer is `y` (its number + 1, or 0) denies one of the rights asked for at the entry. Without a layer
+// nothing is asked.
 pub fn domain_lacks(
     entries: &[u64],
     layers: &[u64],
@@ -140,6 +141,9 @@ pub fn domain_lacks(
 ) -> bool
     ensures { λ r. ⌜ r ≡ lacks (now (entries .entry)) (now (layers .entry)) (now (pool .entry)) (chain (now (layers .entry)) maxDomain y) e (asked .0) ⌝ }
 {
+    if y == 0 {
+        return false;
+    }
     is_denied(domain_denial(entries, layers, pool, y, Question::Entry(e, asked)))
 }
 
@@ -154,6 +158,9 @@ pub fn domain_port_lacks(
 ) -> bool
     ensures { λ r. ⌜ r ≡ portLacks (now (layers .entry)) (now (pool .entry)) (chain (now (layers .entry)) maxDomain y) port (asked .0) ⌝ }
 {
+    if y == 0 {
+        return false;
+    }
     is_denied(domain_denial(entries, layers, pool, y, Question::Port(port, asked)))
 }
 
@@ -161,5 +168,8 @@ pub fn domain_port_lacks(
 pub fn move_verdict(entries: &[u64], layers: &[u64], pool: &[u64], y: u64, m: Move) -> u64
     ensures { λ r. ⌜ r ≡ first (verdict (now (entries .entry)) (now (layers .entry)) (now (pool .entry)) (chain (now (layers .entry)) maxDomain y) m) ⌝ }
 {
+    if y == 0 {
+        return 0;
+    }
     refusal_of(domain_denial(entries, layers, pool, y, Question::Move(m)))
 }

@@ -1,10 +1,5 @@
 -- Assumes nothing.
-use mathlib.Core.Path.{ap, _∙_}
-use mathlib.Core.List.{List}
-use Prim.Native.Nat.{ℕ}
 use Rattle.access.specs.Rights.{without}
-use Rattle.tables.specs.Tables.{pathRule}
-use Rattle.judge.specs.Rules.{rightsOn}
 use Rattle.fs.proofs.Against.{none-left}
 use Rattle.fs_layer.proofs.left_by_rule.Statement.{statement}
 use Rattle.fs_layer.proofs.left_by_rule.Tie as tie

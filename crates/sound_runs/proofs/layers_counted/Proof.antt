@@ -10,7 +10,7 @@ use Rattle.access.specs.Limits.{maxLayers}
 use Rattle.tables.specs.Layers.{layerInUse}
 use Rattle.laws.proofs.Sums.{sum-start, tally-yes, tally-no}
 use Rattle.sound_layers.specs.Layers.{layersCounted}
-use Rattle.sound_layers.proofs.Records.{held-none, held-some}
+use Rattle.tables.proofs.Layers.{held-none, held-some}
 use Rattle.sound_runs.proofs.layers_counted.Statement.{statement}
 use Rattle.sound_runs.proofs.layers_counted.Tie as tie
 
