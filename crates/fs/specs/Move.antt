@@ -29,7 +29,7 @@ deniedRefer es L m = join (missing es L (m .source) (meet (m .leave .0) REFER)) 
 --
 -- This is what keeps a sandbox from widening itself. A layer grants an entry what its rules say of the entry and of all directories above it, so
 -- a move to another directory exchanges what those above grant. If a right were denied under P1 and granted under P2, whoever may move the
--- entry would come to the right by the move alone, without any rule saying so: the calibration table, moved to where the plug-in may write.
+-- entry would come to the right by the move alone, without any rule saying so: the calibration table, moved to where the thread may write.
 -- So each layer by itself asks that what it denied the entry at P1 it denies at P2 too. What the layer's own rule on the object grants moves along
 -- with it, and is no gain. It is asked
 --   layer by layer: a right is denied if one layer denies it, and another layer's grant at P2 must not make up for it;
