@@ -97,6 +97,7 @@ fn parts_sound(
         return false;
     }
     let end = rows_used(entries);
+    // Cells no wider than an entry's number needs, since they are zeroed at each call.
     let mut heads = [0u16; BUCKETS];
     let mut links = [0u16; LINKS];
     if !entries_sound(entries, end, next, &mut heads, &mut links) {

@@ -58,8 +58,9 @@ fn child_of(f: usize, k: u64) -> usize
     BRANCHES * f + (k % BRANCHES as u64) as usize
 }
 
-// Searches for an object from the root of its bucket's tree. A tree and no chain: a client that creates and removes entries can bring all objects into
-// one bucket, and a search still takes no more steps than the object's number has digits.
+// Searches for an object from the root of its bucket's tree. A tree and no chain, since a client that creates and removes entries can bring all
+// objects into one bucket: they are below 2^32, so that a search passes at most 12 nodes, the root and one for each digit, to base 4, above the
+// bucket's bits.
 pub fn search(entries: &[u64], links: &[u16], object: u64, root: usize) -> Place
     requires { ⌜ (length (now entries) ≡ entryWidth * maxEntries) × (Trees (now entries) (now links) maxEntries × ((root ≡ 0 → ⊥) × (root ≤ maxEntries))) ⌝ }
     ensures { λ r. ⌜ ((r .node ≡ 0 → ⊥) → Found (now (entries .entry)) (now (links .entry)) object root (keyOf object) (r .node)) × (r .node ≡ 0 → Missed (now (entries .entry)) (now (links .entry)) object root (keyOf object) (r .cell)) ⌝ }
@@ -74,10 +75,7 @@ pub fn search(entries: &[u64], links: &[u16], object: u64, root: usize) -> Place
         let cell = child_of(f, key);
         at = links[cell] as usize;
         if at == 0 {
-            return Place {
-                node: 0,
-                cell: cell,
-            };
+            return Place { node: 0, cell };
         }
         key = key / BRANCHES as u64;
     }

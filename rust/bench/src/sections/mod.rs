@@ -47,15 +47,20 @@ fn policies() -> [(&'static str, Tables); 6] {
 }
 
 /// The tables that the soundness test is measured on, alone and in a whole access call.
-fn sound_tables() -> [(&'static str, Tables); 5] {
+fn sound_tables() -> [(&'static str, Tables); 7] {
     let crowded = inputs::crowded();
     [
         ("4 entries, no layer", inputs::fresh()),
         ("1,000 entries, 41 layers of 4 to 36 rules", crowded.clone()),
         (
             "the same, objects all in one bucket",
-            inputs::one_bucket(crowded),
+            inputs::spread(crowded.clone(), 1024),
         ),
+        (
+            "the same, objects in the deepest tree",
+            inputs::spread(crowded, 1 << 22),
+        ),
+        ("1,000 hard links of one file", inputs::linked()),
         ("1,023 deep, 1 layer", inputs::chain()),
         ("every table full", inputs::full()),
     ]
