@@ -1,17 +1,17 @@
 -- An entry that goes into the index of those before it, and whether it agrees with them. Assumes nothing.
-use mathlib.Core.Path.{_≡_, refl, sym, ap, _∙_}
+use mathlib.Core.Path.{_≡_, sym, ap, _∙_}
 use mathlib.Core.Bool.{Bool, true}
 use mathlib.Core.List.{List}
-use Prim.Native.Nat.{ℕ, _+_, _-_, _*_, _≤_, _<_}
+use Prim.Native.Nat.{ℕ, _+_, _-_, _≤_, _<_}
 use native.Mathlib.Omega.{arith}
-use lib.ListN.{length, getD, set}
+use lib.ListN.{getD, set}
 use borrow.Author.Tests.{eqb-true}
 use Rattle.laws.proofs.Tests.{allOf-at}
 use Rattle.access.specs.Limits.{maxEntries}
 use Rattle.tables.specs.Tables.{kind, object, live}
-use Rattle.sound_objects.specs.Objects.{branches, bucketOf, keyOf, Found, Missed, IndexedBelow}
+use Rattle.sound_objects.specs.Objects.{bucketOf, keyOf, Found, Missed, IndexedBelow}
 use Rattle.sound_objects.proofs.Live.{first, first-kind}
-use Rattle.sound_objects.proofs.Trees.{found-some, found-object, found-node, missed-none, missed-some, missed-cell}
+use Rattle.sound_objects.proofs.Trees.{found-some, found-object, found-node, missed-none}
 use Rattle.sound_objects.proofs.Index.{stands-alike, index-same, index-root, index-child}
 use Rattle.sound_tree.specs.Tree.{linksSound}
 use Rattle.sound_tree.specs.Fast.{kindsAgree}
@@ -31,7 +31,7 @@ module _ (es heads links : List ℕ) {e b : ℕ} (k : e < maxEntries) (u : Index
 
   -- its object has a node
   module _ {to : ℕ} (s : Found es links (object es e) (getD heads b 0) (keyOf (object es e)) to) where
-    pub node-in : (to ≤ e) × (live es (to - 1) ≡ true)
+    node-in : (to ≤ e) × (live es (to - 1) ≡ true)
     node-in = let r = u .roots b (found-some s) in found-node es links (u .trees .nodes) s (r .0) (r .1)
 
     pub adds-same : {r : Bool} → (to ≡ 0 → ⊥) → r ≡ kindsAgree (first es e) (first es (to - 1)) → (r ≡ linksSound es e) × (r ≡ true → IndexedBelow es heads links (e + 1))
@@ -43,11 +43,7 @@ module _ (es heads links : List ℕ) {e b : ℕ} (k : e < maxEntries) (u : Index
         )
 
   -- or an empty cell
-  module _ {p : ℕ} (m : Missed es links (object es e) (getD heads b 0) (keyOf (object es e)) p) where
-    pub cell-in : p < branches * maxEntries
-    cell-in = let c = missed-cell es links (u .trees .nodes) m (u .roots b (missed-some m) .0) in omega arith
-
-    pub adds-child : (true ≡ linksSound es e) × IndexedBelow es heads (set links p (e + 1)) (e + 1)
-    adds-child =
-        let t : Missed es links (object es e) (getD heads (bucketOf (object es e)) 0) (keyOf (object es e)) p = rw q at m in
-        (links-none es e (λ f i a r. missed-none t (u .held f (object es e) i a r .found)), index-child es u k l t)
+  pub adds-child : {p : ℕ} → Missed es links (object es e) (getD heads b 0) (keyOf (object es e)) p → (true ≡ linksSound es e) × IndexedBelow es heads (set links p (e + 1)) (e + 1)
+  adds-child {p} m =
+      let t : Missed es links (object es e) (getD heads (bucketOf (object es e)) 0) (keyOf (object es e)) p = rw q at m in
+      (links-none es e (λ f i a r. missed-none t (u .held f (object es e) i a r .found)), index-child es u k l t)

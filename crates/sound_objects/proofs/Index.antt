@@ -18,7 +18,7 @@ use Rattle.sound_objects.specs.Objects.{buckets, branches, bucketOf, key
 use Rattle.sound_objects.proofs.Rows.{free-kind}
 use Rattle.sound_objects.proofs.Trees.{Kept, kept-same, kept-set, found-some, found-one, found-kept, missed-some, missed-empty, missed-cell, missed-filled}
 
-pub bucket-below : (o : ℕ) → bucketOf o < buckets
+bucket-below : (o : ℕ) → bucketOf o < buckets
 unfolding bucketOf
 bucket-below o = mod-lt o (omega arith)
 

@@ -5,20 +5,17 @@ use mathlib.Core.List.{List}
 use Prim.Native.Nat.{ℕ, suc, _+_, _-_, _*_, _≤_, _<_}
 use native.Mathlib.Nat.{mod-lt}
 use native.Mathlib.Omega.{arith}
-use lib.Dec.{eqb}
 use lib.ListN.{getD, set}
 use lib.Seq.{getD-set-other}
-use borrow.Author.Tests.{eqb-true, eqb-false}
-use Rattle.laws.proofs.Bools.{split}
 use Rattle.tables.specs.Tables.{object, live}
 use Rattle.sound_objects.specs.Objects.{branches, childOf, keyBelow, Found, here, next, Missed, ends, goes, Nodes, Trees}
 
 -- a child's cell is one of its parent's
-pub child-from : (f k : ℕ) → branches * f ≤ childOf f k
+child-from : (f k : ℕ) → branches * f ≤ childOf f k
 unfolding childOf
 child-from f k = omega arith
 
-pub child-to : (f k : ℕ) → childOf f k < branches * suc f
+child-to : (f k : ℕ) → childOf f k < branches * suc f
 unfolding childOf
 child-to f k = let h = mod-lt k {m = branches} (omega arith) in omega arith
 

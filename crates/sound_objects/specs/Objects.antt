@@ -40,6 +40,13 @@ pub data Missed (es links : List ℕ) (o : ℕ) : ℕ → ℕ → ℕ → Type 0
   ends : {at k p : ℕ} → (at ≡ 0 → ⊥) → (object es (at - 1) ≡ o → ⊥) → p ≡ childOf (at - 1) k → getD links p 0 ≡ 0 → Missed es links o at k p
   goes : {at k c p : ℕ} → (at ≡ 0 → ⊥) → (object es (at - 1) ≡ o → ⊥) → getD links (childOf (at - 1) k) 0 ≡ c → Missed es links o c (keyBelow k) p → Missed es links o at k p
 
+-- what a search from the root answers: the object's node; or 0, and the empty cell where it would be
+pub record Searched (es links : List ℕ) (o root node cell : ℕ) : Type 0 where
+  pub node-in : node ≤ maxEntries
+  pub cell-in : cell < branches * maxEntries
+  pub found : (node ≡ 0 → ⊥) → Found es links o root (keyOf o) node
+  pub missed : node ≡ 0 → Missed es links o root (keyOf o) cell
+
 -- a cell that is not empty holds a live entry below n
 abbrev pub Nodes : List ℕ → List ℕ → ℕ → Type 0
 Nodes es cells n = (p : ℕ) → (getD cells p 0 ≡ 0 → ⊥) → (getD cells p 0 ≤ n) × (live es (getD cells p 0 - 1) ≡ true)

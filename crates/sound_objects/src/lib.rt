@@ -9,7 +9,7 @@ ghost use lib.ListN.{length};
 ghost use Rattle.access.specs.Limits.{maxEntries};
 ghost use Rattle.tables.specs.Tables.{entryWidth};
 ghost use Rattle.sound_objects.specs.Rows.{blockRows, blocks, usedBlocks};
-ghost use Rattle.sound_objects.specs.Objects.{bucketOf, keyOf, childOf, Trees, Found, Missed};
+ghost use Rattle.sound_objects.specs.Objects.{branches, bucketOf, childOf, Trees, Searched};
 
 pub const BUCKETS: usize = 1024;
 // The children of a node.
@@ -53,7 +53,7 @@ pub fn bucket_of(object: u64) -> usize
 // The cell of the child of node `f` to which a search with key `k` goes.
 fn child_of(f: usize, k: u64) -> usize
     requires { ⌜ f < maxEntries ⌝ }
-    ensures { λ r. ⌜ r ≡ childOf f k ⌝ }
+    ensures { λ r. ⌜ (r ≡ childOf f k) × (r < branches * maxEntries) ⌝ }
 {
     BRANCHES * f + (k % BRANCHES as u64) as usize
 }
@@ -63,7 +63,7 @@ fn child_of(f: usize, k: u64) -> usize
 // bucket's bits.
 pub fn search(entries: &[u64], links: &[u16], object: u64, root: usize) -> Place
     requires { ⌜ (length (now entries) ≡ entryWidth * maxEntries) × (Trees (now entries) (now links) maxEntries × ((root ≡ 0 → ⊥) × (root ≤ maxEntries))) ⌝ }
-    ensures { λ r. ⌜ ((r .node ≡ 0 → ⊥) → Found (now (entries .entry)) (now (links .entry)) object root (keyOf object) (r .node)) × (r .node ≡ 0 → Missed (now (entries .entry)) (now (links .entry)) object root (keyOf object) (r .cell)) ⌝ }
+    ensures { λ r. ⌜ Searched (now (entries .entry)) (now (links .entry)) object root (r .node) (r .cell) ⌝ }
 {
     let mut at = root;
     let mut key = object / BUCKETS as u64;

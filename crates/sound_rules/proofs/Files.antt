@@ -43,7 +43,7 @@ module _ (es heads links : List ℕ) (o : ℕ) {b : ℕ} (u : Indexed es heads l
 
   -- or it has one
   module _ {to : ℕ} (s : Found es links o (getD heads b 0) (keyOf o) to) where
-    pub node-in : (to ≤ maxEntries) × (live es (to - 1) ≡ true)
+    node-in : (to ≤ maxEntries) × (live es (to - 1) ≡ true)
     node-in = let r = u .roots b (found-some s) in found-node es links (u .trees .nodes) s (r .0) (r .1)
 
     file-node : (to ≡ 0 → ⊥) → not (isDir es (to - 1)) ≡ fileObject es o

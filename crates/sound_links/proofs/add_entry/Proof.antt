@@ -1,11 +1,10 @@
 -- Assumes nothing.
-use mathlib.Core.Path.{refl}
 use native.Mathlib.Omega.{arith}
 use borrow.Author.Needs.{needs}
 use Rattle.sound_objects.proofs.Live.{live-no, live-yes}
 use Rattle.sound_objects.proofs.Index.{bucket-in, trees-more, index-free}
 use Rattle.sound_tree.proofs.Rows.{links-free}
-use Rattle.sound_links.proofs.Adds.{adds-root, node-in, adds-same, cell-in, adds-child}
+use Rattle.sound_links.proofs.Adds.{adds-root, adds-same, adds-child}
 use Rattle.sound_links.proofs.add_entry.Statement.{statement}
 use Rattle.sound_links.proofs.add_entry.Tie as tie
 
@@ -51,27 +50,9 @@ add-entry-spec =
     let u = s .pre .1 in
     (s .pre .0 .0, (trees-more _ (omega arith) (u .trees), (c .before .if2 .left, (let n = u .roots (b .bucket-of .result) (c .before .if2 .left) .0 in omega arith)))))
     (λ c. search needs)
-    (λ c.
-    let t = c in
-    let b = t .before .before .before .before .before in
-    let i = b .before .before in
-    let s = i .before .before .before .before .before in
-    let n = node-in _ (s .args .heads .now) _ (s .pre .0 .1) (s .pre .1) (live-yes _ _ (i .if1 .left)) (b .bucket-of .ensures) (t .before .search .ensures .0 (t .if3 .taken)) .0 in
-    omega arith)
-    (λ c.
-    let t = c in
-    let b = t .before .before .before .before .before in
-    let i = b .before .before in
-    let s = i .before .before .before .before .before in
-    let n = node-in _ (s .args .heads .now) _ (s .pre .0 .1) (s .pre .1) (live-yes _ _ (i .if1 .left)) (b .bucket-of .ensures) (t .before .search .ensures .0 (t .if3 .taken)) .0 in
-    omega arith)
-    (λ c.
-    let t = c .before in
-    let b = t .before .before .before .before .before in
-    let i = b .before .before in
-    let s = i .before .before .before .before .before in
-    let n = node-in _ (s .args .heads .now) _ (s .pre .0 .1) (s .pre .1) (live-yes _ _ (i .if1 .left)) (b .bucket-of .ensures) (t .before .search .ensures .0 (t .if3 .taken)) .0 in
-    omega arith)
+    (λ c. search needs)
+    (λ c. search needs)
+    (λ c. search needs)
     (λ c κs. search needs)
     (λ c. search needs)
     (λ c.
@@ -79,26 +60,15 @@ add-entry-spec =
     let b = t .before .before .before .before .before in
     let i = b .before .before in
     let s = i .before .before .before .before .before in
-    adds-same _ (s .args .heads .now) (s .args .links .now) (s .pre .0 .1) (s .pre .1) (live-yes _ _ (i .if1 .left)) (b .bucket-of .ensures) (t .before .search .ensures .0 (t .if3 .taken)) (t .if3 .taken) (c .kinds-agree .ensures))
+    adds-same _ (s .args .heads .now) (s .args .links .now) (s .pre .0 .1) (s .pre .1) (live-yes _ _ (i .if1 .left)) (b .bucket-of .ensures) (t .before .search .ensures .found (t .if3 .taken)) (t .if3 .taken) (c .kinds-agree .ensures))
     (λ c. search needs)
     (λ c. search needs)
-    (λ c.
-    let b = c .before .before .before .before .before in
-    let i = b .before .before in
-    let s = i .before .before .before .before .before in
-    let n = cell-in _ (s .args .heads .now) _ (s .pre .0 .1) (s .pre .1) (live-yes _ _ (i .if1 .left)) (b .bucket-of .ensures) (c .before .search .ensures .1 (c .if3 .left)) in
-    omega arith)
-    (λ c.
-    let b = c .before .before .before .before .before in
-    let i = b .before .before in
-    let s = i .before .before .before .before .before in
-    let n = cell-in _ (s .args .heads .now) _ (s .pre .0 .1) (s .pre .1) (live-yes _ _ (i .if1 .left)) (b .bucket-of .ensures) (c .before .search .ensures .1 (c .if3 .left)) in
-    let w = s .pre .1 .trees .size in
-    omega arith)
+    (λ c. search needs)
+    (λ c. search needs)
     (λ c. search needs)
     (λ c.
     let b = c .before .before .before .before .before in
     let i = b .before .before in
     let s = i .before .before .before .before .before in
-    let r = adds-child _ (s .args .heads .now) _ (s .pre .0 .1) (s .pre .1) (live-yes _ _ (i .if1 .left)) (b .bucket-of .ensures) (c .before .search .ensures .1 (c .if3 .left)) in
+    let r = adds-child _ (s .args .heads .now) _ (s .pre .0 .1) (s .pre .1) (live-yes _ _ (i .if1 .left)) (b .bucket-of .ensures) (c .before .search .ensures .missed (c .if3 .left)) in
     (r .0, λ h. r .1)))

@@ -3,7 +3,7 @@ use mathlib.Core.Path.{refl}
 use native.Mathlib.Omega.{arith}
 use borrow.Author.Needs.{needs}
 use Rattle.sound_objects.proofs.Index.{bucket-in}
-use Rattle.sound_rules.proofs.Files.{file-no-root, file-no-node, node-in, file-by-node}
+use Rattle.sound_rules.proofs.Files.{file-no-root, file-no-node, file-by-node}
 use Rattle.sound_rules.proofs.file_object.Statement.{statement}
 use Rattle.sound_rules.proofs.file_object.Tie as tie
 
@@ -30,26 +30,13 @@ file-object-spec =
     (λ c.
     let b = c .before .before .before .before in
     let s = b .before .before .before .before in
-    file-no-node _ (s .args .heads .now) _ _ (s .pre .1) (b .bucket-of .ensures) (c .before .search .ensures .1 (c .if2 .taken)))
+    file-no-node _ (s .args .heads .now) _ _ (s .pre .1) (b .bucket-of .ensures) (c .before .search .ensures .missed (c .if2 .taken)))
+    (λ c. search needs)
+    (λ c. search needs)
+    (λ c. search needs)
     (λ c. search needs)
     (λ c.
-    let b = c .before .before .before .before in
-    let s = b .before .before .before .before in
-    let n = node-in _ (s .args .heads .now) _ _ (s .pre .1) (b .bucket-of .ensures) (c .before .search .ensures .0 (c .if2 .left)) .0 in
-    omega arith)
-    (λ c.
-    let b = c .before .before .before .before in
-    let s = b .before .before .before .before in
-    let n = node-in _ (s .args .heads .now) _ _ (s .pre .1) (b .bucket-of .ensures) (c .before .search .ensures .0 (c .if2 .left)) .0 in
-    omega arith)
-    (λ c.
     let t = c .before in
     let b = t .before .before .before .before in
     let s = b .before .before .before .before in
-    let n = node-in _ (s .args .heads .now) _ _ (s .pre .1) (b .bucket-of .ensures) (t .before .search .ensures .0 (t .if2 .left)) .0 in
-    omega arith)
-    (λ c.
-    let t = c .before in
-    let b = t .before .before .before .before in
-    let s = b .before .before .before .before in
-    file-by-node _ (s .args .heads .now) _ _ (s .pre .1) (b .bucket-of .ensures) (t .before .search .ensures .0 (t .if2 .left)) (t .if2 .left) refl))
+    file-by-node _ (s .args .heads .now) _ _ (s .pre .1) (b .bucket-of .ensures) (t .before .search .ensures .found (t .if2 .left)) (t .if2 .left) refl))
