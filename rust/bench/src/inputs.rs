@@ -133,14 +133,16 @@ pub fn linked() -> Tables {
     build.tables
 }
 
-/// The tables with every object number multiplied. By 1,024: all fall into one bucket, and differ from the next digit on. By as much as the counter
-/// allows: they differ in the last digits only, which makes the trees deepest.
+/// The tables with every object number multiplied. By 1,024 all fall into one bucket, and differ in the digits next to it; by 2^22, as much as the
+/// counter allows, in the highest digits alone, which makes the tree deepest.
 pub fn spread(mut tables: Tables, factor: u64) -> Tables {
     tables.system[1] *= factor;
     for row in tables.entries.chunks_exact_mut(ENTRY_WIDTH) {
         row[2] *= factor;
     }
-    let rules = tables.pool.chunks_exact_mut(RULE_WIDTH);
+    let rulesets = tables.rulesets.chunks_exact_mut(RULESET_WIDTH);
+    let rules = rulesets.flat_map(|row| row[RULESET_HEAD..].chunks_exact_mut(RULE_WIDTH));
+    let rules = rules.chain(tables.pool.chunks_exact_mut(RULE_WIDTH));
     for rule in rules.filter(|rule| rule[0] == PATH_RULE) {
         rule[1] *= factor;
     }
