@@ -1,10 +1,12 @@
-// What C and Rust call: every call of the broker, with its arguments as numbers and its reply as one number.
+// What C and Rust call: every call of the broker, with its arguments as numbers and its reply as one number. A call with a verdict also writes a
+// report: the layer that refused (its number + 1, or 0 for none) and what it denies; a shorter one gets the cells that it has.
 use access::rights::Rights;
 use cells::row_read;
 use codes::code_of;
 use codes::number;
 use codes::replaced_by;
 use codes::report;
+use codes::report_denial;
 use judge::rules::cells_of;
 use tables::rows::LAYER_FIRST;
 use tables::rows::LAYER_WIDTH;
@@ -29,7 +31,7 @@ ghost use Rattle.tree.specs.Link.{treeLink};
 ghost use Rattle.tree.specs.Rename.{treeRename};
 ghost use Rattle.tree.specs.Exchange.{treeExchange};
 ghost use Rattle.codes.specs.Codes.{replacedBy};
-ghost use Rattle.capi.specs.Codes.{Answers, spanFrom};
+ghost use Rattle.capi.specs.Codes.{Answers, Tells, spanFrom};
 
 fn span_from(layers: &[u64], cells: usize, l: u64, code: u64) -> usize
     ensures { λ r. ⌜ r ≡ cond (eqb code 0) (min (ruleWidth * layerFirst (now (layers .entry)) l) cells) 0 ⌝ }
@@ -256,10 +258,11 @@ pub extern "C" fn skein_access(
     t: u64,
     e: u64,
     rights: u64,
+    report: &mut [u64],
 ) -> u64
-    ensures { λ answer. ⌜ Answers answer (after system entries rulesets layers pool threads) (accessCall (before system entries rulesets layers pool threads) t e rights) ⌝ }
+    ensures { λ answer. ⌜ Tells answer (after system entries rulesets layers pool threads) (now (report .entry)) (now (report .exit)) (accessCall (before system entries rulesets layers pool threads) t e rights) ⌝ }
 {
-    number(broker::entries::access(
+    let reply = broker::entries::access(
         system,
         entries,
         rulesets,
@@ -269,7 +272,9 @@ pub extern "C" fn skein_access(
         t,
         e,
         Rights(rights),
-    ))
+    );
+    report_denial(report, reply);
+    number(reply)
 }
 
 #[no_mangle]
@@ -283,10 +288,11 @@ pub extern "C" fn skein_port(
     t: u64,
     p: u64,
     rights: u64,
+    report: &mut [u64],
 ) -> u64
-    ensures { λ answer. ⌜ Answers answer (after system entries rulesets layers pool threads) (portCall (before system entries rulesets layers pool threads) t p rights) ⌝ }
+    ensures { λ answer. ⌜ Tells answer (after system entries rulesets layers pool threads) (now (report .entry)) (now (report .exit)) (portCall (before system entries rulesets layers pool threads) t p rights) ⌝ }
 {
-    number(broker::ports::port(
+    let reply = broker::ports::port(
         system,
         entries,
         rulesets,
@@ -296,7 +302,9 @@ pub extern "C" fn skein_port(
         t,
         p,
         Rights(rights),
-    ))
+    );
+    report_denial(report, reply);
+    number(reply)
 }
 
 #[no_mangle]
@@ -310,10 +318,13 @@ pub extern "C" fn skein_create(
     t: u64,
     d: u64,
     k: u64,
+    report: &mut [u64],
 ) -> u64
-    ensures { λ answer. ⌜ Answers answer (after system entries rulesets layers pool threads) (treeCreate (before system entries rulesets layers pool threads) t d k) ⌝ }
+    ensures { λ answer. ⌜ Tells answer (after system entries rulesets layers pool threads) (now (report .entry)) (now (report .exit)) (treeCreate (before system entries rulesets layers pool threads) t d k) ⌝ }
 {
-    number(broker_tree::create::create(system, entries, rulesets, layers, pool, threads, t, d, k))
+    let reply = broker_tree::create::create(system, entries, rulesets, layers, pool, threads, t, d, k);
+    report_denial(report, reply);
+    number(reply)
 }
 
 #[no_mangle]
@@ -326,10 +337,13 @@ pub extern "C" fn skein_remove(
     threads: &[u64],
     t: u64,
     e: u64,
+    report: &mut [u64],
 ) -> u64
-    ensures { λ answer. ⌜ Answers answer (after system entries rulesets layers pool threads) (treeRemove (before system entries rulesets layers pool threads) t e) ⌝ }
+    ensures { λ answer. ⌜ Tells answer (after system entries rulesets layers pool threads) (now (report .entry)) (now (report .exit)) (treeRemove (before system entries rulesets layers pool threads) t e) ⌝ }
 {
-    number(broker_tree::remove::remove(system, entries, rulesets, layers, pool, threads, t, e))
+    let reply = broker_tree::remove::remove(system, entries, rulesets, layers, pool, threads, t, e);
+    report_denial(report, reply);
+    number(reply)
 }
 
 #[no_mangle]
@@ -343,10 +357,13 @@ pub extern "C" fn skein_link(
     t: u64,
     s: u64,
     d: u64,
+    report: &mut [u64],
 ) -> u64
-    ensures { λ answer. ⌜ Answers answer (after system entries rulesets layers pool threads) (treeLink (before system entries rulesets layers pool threads) t s d) ⌝ }
+    ensures { λ answer. ⌜ Tells answer (after system entries rulesets layers pool threads) (now (report .entry)) (now (report .exit)) (treeLink (before system entries rulesets layers pool threads) t s d) ⌝ }
 {
-    number(broker_moves::link(system, entries, rulesets, layers, pool, threads, t, s, d))
+    let reply = broker_moves::link(system, entries, rulesets, layers, pool, threads, t, s, d);
+    report_denial(report, reply);
+    number(reply)
 }
 
 #[no_mangle]
@@ -362,10 +379,11 @@ pub extern "C" fn skein_rename(
     d: u64,
     replaces: u64,
     x: u64,
+    report: &mut [u64],
 ) -> u64
-    ensures { λ answer. ⌜ Answers answer (after system entries rulesets layers pool threads) (treeRename (before system entries rulesets layers pool threads) t s d (replacedBy replaces x)) ⌝ }
+    ensures { λ answer. ⌜ Tells answer (after system entries rulesets layers pool threads) (now (report .entry)) (now (report .exit)) (treeRename (before system entries rulesets layers pool threads) t s d (replacedBy replaces x)) ⌝ }
 {
-    number(broker_moves::rename(
+    let reply = broker_moves::rename(
         system,
         entries,
         rulesets,
@@ -376,7 +394,9 @@ pub extern "C" fn skein_rename(
         s,
         d,
         replaced_by(replaces, x),
-    ))
+    );
+    report_denial(report, reply);
+    number(reply)
 }
 
 #[no_mangle]
@@ -391,10 +411,13 @@ pub extern "C" fn skein_exchange(
     s: u64,
     d: u64,
     x: u64,
+    report: &mut [u64],
 ) -> u64
-    ensures { λ answer. ⌜ Answers answer (after system entries rulesets layers pool threads) (treeExchange (before system entries rulesets layers pool threads) t s d x) ⌝ }
+    ensures { λ answer. ⌜ Tells answer (after system entries rulesets layers pool threads) (now (report .entry)) (now (report .exit)) (treeExchange (before system entries rulesets layers pool threads) t s d x) ⌝ }
 {
-    number(broker_moves::exchange(system, entries, rulesets, layers, pool, threads, t, s, d, x))
+    let reply = broker_moves::exchange(system, entries, rulesets, layers, pool, threads, t, s, d, x);
+    report_denial(report, reply);
+    number(reply)
 }
 
 // `span` receives the first pool cell of the layer's rules and their number of cells.
