@@ -1,5 +1,5 @@
 -- What a denial says of the domain: the number of access, port and move follows from it, and the layer that their replies name. Assumes nothing.
-use mathlib.Core.Path.{_≡_, refl, sym, ap, ap₂, _∙_}
+use mathlib.Core.Path.{_≡_, refl, sym, ap, _∙_}
 use mathlib.Core.Bool.{Bool, true, false, cond, not, _||_, or-false, or-assoc, false≢true}
 use mathlib.Core.List.{List, [], _∷_, _++_}
 use Prim.Native.Nat.{ℕ, zero, suc}
@@ -15,14 +15,13 @@ use Rattle.access.specs.Reply.{replyTo}
 use Rattle.access.specs.declared.errno.Reply.{Reply}
 use Rattle.access.specs.declared.rights.Rights.{Rights}
 use Rattle.tables.specs.Tables.{Tables, tables}
-use Rattle.tables.specs.Layers.{layerAt}
 use Rattle.tables.specs.Outcome.{blame, named}
 use Rattle.judge.specs.Domain.{domain, layerLacks, lacks, layerPortLacks, portLacks}
 use Rattle.judge.specs.Blame.{none, deniedAt, entryReply, deniedPort, portReply}
 use Rattle.fs.specs.declared.verdict.Move.{Move}
-use Rattle.fs.specs.Move.{layerDenies, layerCrosses, verdict}
+use Rattle.fs.specs.Move.{layerDenies, verdict}
 use Rattle.fs.specs.Blame.{deniedMove, crossedMove, moveReply}
-use Rattle.fs.proofs.Against.{crossed-none}
+use Rattle.fs.proofs.Against.{crosses-any}
 use Rattle.verdict.specs.declared.Denial.{Denial}
 use Rattle.verdict.specs.declared.Denial.the-variants.{None, Crossed}
 use Rattle.verdict.specs.declared.Question.{Question}
@@ -160,14 +159,9 @@ module _ (es ls ps ts : List ℕ) (t : ℕ) where
     abbrev against : List Check
     against = verdict (T .entries) (T .layers) (T .pool) dom m
 
-    crosses : (D : List ℕ) → any (some (crossedMove T m)) D ≡ any (layerCrosses (T .entries) (T .layers) (T .pool) m) D
-    unfolding any layerCrosses
-    crosses [] = refl
-    crosses (l ∷ D) = ap₂ _||_ (ap not (crossed-none (T .entries) (layerAt (T .layers) (T .pool) l) m)) (crosses D)
-
     move-first : refusalOf (denial (deniedMove T m) (crossedMove T m) 0 0 dom) ≡ first against
     unfolding verdict layerDenies first
-    move-first = refused-any (deniedMove T m) (crossedMove T m) 0 0 dom ∙ rw (crosses dom) refl
+    move-first = refused-any (deniedMove T m) (crossedMove T m) 0 0 dom ∙ rw (crosses-any T m dom) refl
 
     pub move-is : {x : ℕ} → x ≡ refusalOf d → x ≡ first against
     unfolding threadDenial deniedBy crossedBy
