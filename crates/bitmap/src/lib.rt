@@ -7,12 +7,14 @@ ghost use lib.ListN.{length, getD};
 ghost use Rattle.access.specs.Rights.{meet};
 ghost use Rattle.bitmap.specs.Bitmap.{flag, withBits, withFlag, ones, RunTaken};
 
+pub const WORD_BITS: usize = 64;
+
 // Flag `i` is set.
 pub fn is_set(words: &[u64], i: usize) -> bool
     requires { ⌜ i < 64 * length (now words) ⌝ }
     ensures { λ r. ⌜ r ≡ flag (now (words .entry)) i ⌝ }
 {
-    (words[i / 64] >> (i % 64)) % 2 == 1
+    (words[i / WORD_BITS] >> (i % WORD_BITS)) % 2 == 1
 }
 
 // Sets flag `i`.
@@ -20,8 +22,8 @@ pub fn set_flag(words: &mut [u64], i: usize)
     requires { ⌜ i < 64 * length (now words) ⌝ }
     ensures { λ r. ⌜ now (words .exit) ≡ withFlag (now (words .entry)) i ⌝ }
 {
-    let w = i / 64;
-    words[w] = words[w] | (1 << (i % 64));
+    let w = i / WORD_BITS;
+    words[w] = words[w] | (1 << (i % WORD_BITS));
 }
 
 // The mask of `count` bits from bit `from` on.
@@ -29,7 +31,7 @@ fn mask(from: usize, count: usize) -> u64
     requires { ⌜ (0 < count) × (from + count ≤ 64) ⌝ }
     ensures { λ r. ⌜ r ≡ ones from count ⌝ }
 {
-    (u64::MAX >> (64 - count)) << from
+    (u64::MAX >> (WORD_BITS - count)) << from
 }
 
 // Sets the bits of a mask in word `w`, if each is clear.
@@ -53,9 +55,9 @@ pub fn take_run(words: &mut [u64], first: usize, count: usize) -> bool
     if count == 0 {
         return true;
     }
-    let w = first / 64;
-    let from = first % 64;
-    let room = 64 - from;
+    let w = first / WORD_BITS;
+    let from = first % WORD_BITS;
+    let room = WORD_BITS - from;
     if count <= room {
         return take_bits(words, w, mask(from, count));
     }

@@ -10,7 +10,7 @@ use Rattle.access.specs.Errno.{ESRCH, EAGAIN}
 use Rattle.access.specs.Limits.{maxThreads}
 use Rattle.access.specs.declared.errno.Reply.the-variants.{Done}
 use Rattle.tables.specs.Layers.{layerHolders}
-use Rattle.tables.specs.Tables.{Tables, tables, layerWidth, threadWidth, youngest, noNewPrivs, admin, threadLive}
+use Rattle.tables.specs.Tables.{Tables, tables, layerWidth, threadWidth, youngest, privsCell, adminCell, noNewPrivs, admin, threadLive}
 use Rattle.tables.specs.Outcome.{Outcome, outcome, withThreads}
 use Rattle.sound.specs.Call.{call}
 
@@ -48,14 +48,14 @@ cloned T t = call T (cloneChecks T t) (cloneDone T t)
 unfoldable pub markChecks : Tables → ℕ → List Check
 markChecks T t = not (threadLive (T .threads) t) ⇒ ESRCH ∷ []
 
--- a mark set to a value: cell 2 is no_new_privs, cell 3 admin
+-- a mark set to a value, by its cell
 unfoldable pub markDone : Tables → ℕ → ℕ → ℕ → Outcome
 markDone T t k v = outcome (Done 0) (withThreads T (putCell (T .threads) threadWidth t k v))
 
 -- "Mark sets no_new_privs, once for all"
 unfoldable pub privsSet : Tables → ℕ → Outcome
-privsSet T t = call T (markChecks T t) (markDone T t 2 1)
+privsSet T t = call T (markChecks T t) (markDone T t privsCell 1)
 
 -- "the admin mark is the caller's to set or clear"
 unfoldable pub adminSet : Tables → ℕ → ℕ → Outcome
-adminSet T t on = call T (markChecks T t) (markDone T t 3 (cond (eqb on 0) 0 1))
+adminSet T t on = call T (markChecks T t) (markDone T t adminCell (cond (eqb on 0) 0 1))

@@ -2,7 +2,6 @@
 use access::errno::Errno;
 use access::errno::Reply;
 use access::limits::MAX_THREADS;
-use cells::row_read;
 use cells::row_write;
 use tables::rows::LAYER_HOLDERS;
 use tables::rows::LAYER_WIDTH;
@@ -11,6 +10,9 @@ use tables::rows::THREAD_PRIVS;
 use tables::rows::THREAD_STATE;
 use tables::rows::THREAD_WIDTH;
 use tables::rows::THREAD_YOUNGEST;
+use tables::rows::admin_of;
+use tables::rows::layer_holders;
+use tables::rows::no_new_privs_of;
 use tables::rows::thread_live;
 use tables::rows::youngest_of;
 ghost use mathlib.Core.Path.{_≡_};
@@ -63,8 +65,8 @@ fn copy_thread(threads: &mut [u64], u: usize, t: u64)
     ensures { λ r. ⌜ now (threads .exit) ≡ copiedThread (now (threads .entry)) u t ⌝ }
 {
     let youngest = youngest_of(threads, t);
-    let privs = row_read(threads, THREAD_WIDTH, t as usize, THREAD_PRIVS);
-    let admin = row_read(threads, THREAD_WIDTH, t as usize, THREAD_ADMIN);
+    let privs = no_new_privs_of(threads, t);
+    let admin = admin_of(threads, t);
     row_write(threads, THREAD_WIDTH, u, THREAD_STATE, 1);
     row_write(threads, THREAD_WIDTH, u, THREAD_YOUNGEST, youngest);
     row_write(threads, THREAD_WIDTH, u, THREAD_PRIVS, privs);
@@ -79,7 +81,7 @@ fn hold_layer(layers: &mut [u64], y: u64)
     if y == 0 {
         return;
     }
-    let held = row_read(layers, LAYER_WIDTH, (y - 1) as usize, LAYER_HOLDERS);
+    let held = layer_holders(layers, y - 1);
     row_write(
         layers,
         LAYER_WIDTH,

@@ -2,13 +2,15 @@
 use access::errno::Errno;
 use access::errno::Reply;
 use cells::row_write;
+use tables::rows::THREAD_ADMIN;
+use tables::rows::THREAD_PRIVS;
 use tables::rows::THREAD_WIDTH;
 use tables::rows::thread_live;
 ghost use mathlib.Core.Path.{_≡_};
 ghost use mathlib.Core.Bool.{cond};
 ghost use lib.Dec.{eqb};
 ghost use Rattle.laws.specs.Refusals.{first};
-ghost use Rattle.tables.specs.Tables.{before, after};
+ghost use Rattle.tables.specs.Tables.{before, after, privsCell, adminCell};
 ghost use Rattle.tables.specs.Outcome.{outcome, answer};
 ghost use Rattle.domain.specs.Threads.{markChecks, markDone};
 
@@ -61,9 +63,19 @@ pub fn set_no_new_privs(
     threads: &mut [u64],
     t: u64,
 ) -> Reply
-    ensures { λ r. ⌜ outcome r (after system entries rulesets layers pool threads) ≡ answer (before system entries rulesets layers pool threads) (markChecks (before system entries rulesets layers pool threads) t) (markDone (before system entries rulesets layers pool threads) t 2 1) ⌝ }
+    ensures { λ r. ⌜ outcome r (after system entries rulesets layers pool threads) ≡ answer (before system entries rulesets layers pool threads) (markChecks (before system entries rulesets layers pool threads) t) (markDone (before system entries rulesets layers pool threads) t privsCell 1) ⌝ }
 {
-    set_mark(system, entries, rulesets, layers, pool, threads, t, 2, 1)
+    set_mark(
+        system,
+        entries,
+        rulesets,
+        layers,
+        pool,
+        threads,
+        t,
+        THREAD_PRIVS,
+        1,
+    )
 }
 
 // Sets the admin mark, or clears it where `on` is 0.
@@ -77,8 +89,18 @@ pub fn set_admin(
     t: u64,
     on: u64,
 ) -> Reply
-    ensures { λ r. ⌜ outcome r (after system entries rulesets layers pool threads) ≡ answer (before system entries rulesets layers pool threads) (markChecks (before system entries rulesets layers pool threads) t) (markDone (before system entries rulesets layers pool threads) t 3 (cond (eqb on 0) 0 1)) ⌝ }
+    ensures { λ r. ⌜ outcome r (after system entries rulesets layers pool threads) ≡ answer (before system entries rulesets layers pool threads) (markChecks (before system entries rulesets layers pool threads) t) (markDone (before system entries rulesets layers pool threads) t adminCell (cond (eqb on 0) 0 1)) ⌝ }
 {
     let v = if on == 0 { 0 } else { 1 };
-    set_mark(system, entries, rulesets, layers, pool, threads, t, 3, v)
+    set_mark(
+        system,
+        entries,
+        rulesets,
+        layers,
+        pool,
+        threads,
+        t,
+        THREAD_ADMIN,
+        v,
+    )
 }

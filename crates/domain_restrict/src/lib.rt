@@ -3,17 +3,13 @@ use access::errno::Errno;
 use access::limits::MAX_DOMAIN;
 use access::limits::MAX_LAYERS;
 use access::limits::MAX_POOL;
-use cells::row_read;
-use tables::rows::LAYER_PARENT;
-use tables::rows::LAYER_WIDTH;
-use tables::rows::RULESET_COUNT;
-use tables::rows::RULESET_WIDTH;
-use tables::rows::THREAD_ADMIN;
-use tables::rows::THREAD_PRIVS;
-use tables::rows::THREAD_WIDTH;
+use tables::rows::admin_of;
+use tables::rows::layer_parent;
 use tables::rows::layers_used;
 use tables::rows::level_of;
+use tables::rows::no_new_privs_of;
 use tables::rows::pool_used;
+use tables::rows::ruleset_count;
 use tables::rows::ruleset_open;
 use tables::rows::thread_live;
 use tables::rows::youngest_of;
@@ -25,10 +21,10 @@ ghost use Rattle.domain_restrict.specs.Restrict.{unmarked, restrictForm,
 fn is_unmarked(threads: &[u64], t: u64) -> bool
     ensures { λ r. ⌜ r ≡ unmarked (now (threads .entry)) t ⌝ }
 {
-    if row_read(threads, THREAD_WIDTH, t as usize, THREAD_PRIVS) != 0 {
+    if no_new_privs_of(threads, t) != 0 {
         return false;
     }
-    row_read(threads, THREAD_WIDTH, t as usize, THREAD_ADMIN) == 0
+    admin_of(threads, t) == 0
 }
 
 fn restrict_form(system: &[u64], threads: &[u64], t: u64, flags: u64) -> u64
@@ -59,7 +55,7 @@ fn is_deep(layers: &[u64], threads: &[u64], t: u64) -> bool
         if at == 0 {
             return false;
         }
-        at = row_read(layers, LAYER_WIDTH, (at - 1) as usize, LAYER_PARENT);
+        at = layer_parent(layers, at - 1);
         n -= 1;
     }
     true
@@ -73,7 +69,7 @@ fn has_no_room(system: &[u64], rulesets: &[u64], r: u64) -> bool
         return true;
     }
     let used = pool_used(system);
-    let count = row_read(rulesets, RULESET_WIDTH, r as usize, RULESET_COUNT);
+    let count = ruleset_count(rulesets, r);
     if used > MAX_POOL as u64 {
         return true;
     }

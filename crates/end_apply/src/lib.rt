@@ -2,16 +2,16 @@
 use access::errno::Errno;
 use access::errno::Reply;
 use access::limits::MAX_DOMAIN;
-use cells::row_read;
 use cells::row_write;
 use domain_end::end_checks;
 use end_release::minus;
 use end_release::release;
 use end_release::zero_row;
 use tables::rows::LAYER_HOLDERS;
-use tables::rows::LAYER_PARENT;
 use tables::rows::LAYER_WIDTH;
 use tables::rows::THREAD_WIDTH;
+use tables::rows::layer_holders;
+use tables::rows::layer_parent;
 use tables::rows::youngest_of;
 ghost use mathlib.Core.Path.{_≡_};
 ghost use Rattle.access.specs.Limits.{maxDomain};
@@ -38,7 +38,7 @@ fn put_layer(
             return;
         }
         let l = at - 1;
-        let held = row_read(layers, LAYER_WIDTH, l as usize, LAYER_HOLDERS);
+        let held = layer_holders(layers, l);
         if held != 1 {
             row_write(
                 layers,
@@ -49,7 +49,7 @@ fn put_layer(
             );
             return;
         }
-        at = row_read(layers, LAYER_WIDTH, l as usize, LAYER_PARENT);
+        at = layer_parent(layers, l);
         release(system, entries, rulesets, layers, pool, threads, l);
         n -= 1;
     }

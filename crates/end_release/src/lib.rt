@@ -1,15 +1,15 @@
 // A layer given back: its record is free, its run closed.
 use access::limits::MAX_LAYERS;
-use cells::row_read;
 use cells::row_start;
 use cells::row_write;
 use cells::write;
-use tables::rows::LAYER_COUNT;
 use tables::rows::LAYER_FIRST;
 use tables::rows::LAYER_WIDTH;
 use tables::rows::RULE_WIDTH;
 use tables::rows::SYSTEM_LAYERS;
 use tables::rows::SYSTEM_POOL;
+use tables::rows::layer_count;
+use tables::rows::layer_first;
 use tables::rows::layers_used;
 use tables::rows::pool_used;
 ghost use mathlib.Core.Path.{_≡_};
@@ -52,7 +52,7 @@ pub fn zero_row(t: &mut [u64], width: usize, i: usize)
 fn lower_one(layers: &mut [u64], first: u64, count: u64, l: usize)
     ensures { λ r. ⌜ now (layers .exit) ≡ lowerOne (now (layers .entry)) first count l ⌝ }
 {
-    let at = row_read(layers, LAYER_WIDTH, l, LAYER_FIRST);
+    let at = layer_first(layers, l as u64);
     if !ends_before(first, count, at) {
         return;
     }
@@ -106,8 +106,8 @@ pub fn release(
 )
     ensures { λ r. ⌜ after system entries rulesets layers pool threads ≡ released (before system entries rulesets layers pool threads) l ⌝ }
 {
-    let first = row_read(layers, LAYER_WIDTH, l as usize, LAYER_FIRST);
-    let count = row_read(layers, LAYER_WIDTH, l as usize, LAYER_COUNT);
+    let first = layer_first(layers, l);
+    let count = layer_count(layers, l);
     let used = layers_used(system);
     let taken = pool_used(system);
     write(system, SYSTEM_LAYERS, minus(used, 1));

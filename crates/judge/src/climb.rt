@@ -3,12 +3,10 @@ use crate::rules::layer_rules;
 use crate::rules::rights_on;
 use access::limits::MAX_ENTRIES;
 use access::rights::Rights;
-use cells::row_read;
-use tables::rows::LAYER_FS;
-use tables::rows::LAYER_NET;
-use tables::rows::LAYER_WIDTH;
 use tables::rows::PATH_RULE;
 use tables::rows::PORT_RULE;
+use tables::rows::layer_fs;
+use tables::rows::layer_net;
 use tables::rows::object_of;
 use tables::rows::parent_of;
 ghost use mathlib.Core.Path.{_≡_};
@@ -61,7 +59,7 @@ pub fn layer_missing(
 ) -> Rights
     ensures { λ r. ⌜ r .0 ≡ missing (now (entries .entry)) (layerAt (now (layers .entry)) (now (pool .entry)) l) e (asked .0) ⌝ }
 {
-    let fs = Rights(row_read(layers, LAYER_WIDTH, l as usize, LAYER_FS));
+    let fs = layer_fs(layers, l);
     let rules = layer_rules(layers, pool, l);
     missing_up(entries, rules, e, asked.meet(handled_by(fs)), MAX_ENTRIES)
 }
@@ -70,7 +68,7 @@ pub fn layer_missing(
 pub fn layer_port_missing(layers: &[u64], pool: &[u64], l: u64, port: u64, asked: Rights) -> Rights
     ensures { λ r. ⌜ r .0 ≡ portMissing (layerAt (now (layers .entry)) (now (pool .entry)) l) port (asked .0) ⌝ }
 {
-    let net = Rights(row_read(layers, LAYER_WIDTH, l as usize, LAYER_NET));
+    let net = layer_net(layers, l);
     let rules = layer_rules(layers, pool, l);
     asked.meet(net).without(rights_on(rules, PORT_RULE, port))
 }

@@ -1,16 +1,15 @@
 // A layer's rules: the part of the pool that holds them, and the rights of a rule.
 use access::rights::Rights;
 use cells::read;
-use cells::row_read;
 use cells::row_start;
-use tables::rows::LAYER_COUNT;
-use tables::rows::LAYER_FIRST;
-use tables::rows::LAYER_WIDTH;
 use tables::rows::RULE_KEY;
+use tables::rows::RULE_RIGHTS;
 use tables::rows::RULE_WIDTH;
-use tables::rows::RULESET_COUNT;
 use tables::rows::RULESET_HEAD;
 use tables::rows::RULESET_WIDTH;
+use tables::rows::layer_count;
+use tables::rows::layer_first;
+use tables::rows::ruleset_count;
 ghost use mathlib.Core.Path.{_≡_};
 ghost use Prim.Native.Nat.{_*_, _/_, _<_, min};
 ghost use lib.ListN.{length};
@@ -48,7 +47,7 @@ pub fn rights_on(rules: &[u64], ty: u64, key: u64) -> Rights
     ensures { λ r. ⌜ r .0 ≡ rightsOn (now (rules .entry)) ty key ⌝ }
 {
     let i = rule_place(rules, ty, key);
-    Rights(read(rules, RULE_WIDTH * i + 2))
+    Rights(read(rules, RULE_WIDTH * i + RULE_RIGHTS))
 }
 
 // Three times a number of rules, and at most `most`.
@@ -65,14 +64,8 @@ pub fn cells_of(count: u64, most: usize) -> usize
 pub fn layer_rules<'a>(layers: &[u64], pool: &'a [u64], l: u64) -> &'a [u64]
     ensures { λ r. ⌜ now r ≡ layerAt (now (layers .entry)) (now (pool .entry)) l .rules ⌝ }
 {
-    let from = cells_of(
-        row_read(layers, LAYER_WIDTH, l as usize, LAYER_FIRST),
-        pool.len(),
-    );
-    let more = cells_of(
-        row_read(layers, LAYER_WIDTH, l as usize, LAYER_COUNT),
-        pool.len() - from,
-    );
+    let from = cells_of(layer_first(layers, l), pool.len());
+    let more = cells_of(layer_count(layers, l), pool.len() - from);
     let to = from + more;
     &pool[from..to]
 }
@@ -89,7 +82,7 @@ pub fn ruleset_rules<'a>(rulesets: &'a [u64], r: u64) -> &'a [u64]
 {
     let start = row_start(rulesets.len(), RULESET_WIDTH, r as usize);
     let from = start + smaller(RULESET_HEAD, rulesets.len() - start);
-    let count = row_read(rulesets, RULESET_WIDTH, r as usize, RULESET_COUNT);
+    let count = ruleset_count(rulesets, r);
     let more = cells_of(count, rulesets.len() - from);
     let to = from + more;
     &rulesets[from..to]

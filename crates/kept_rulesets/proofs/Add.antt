@@ -139,7 +139,7 @@ path-fits : (es : List ℕ) (next e rights : ℕ) → Tree es next → live es e
 unfolding pastFileSet isDir
 path-fits es next e rights Z l h f b lf df o = split (within rights fileSet) (λ q. q)
     (λ q.
-    let d : isDir es e ≡ false = ap (λ (k : ℕ). eqb k directory) (Z .kinds-agree e f l lf (sym o)) ∙ df in
+    let d : isDir es e ≡ false = ap (λ (k : ℕ). eqb k directory) (Z .agreed .kinds-agree e f l lf (sym o)) ∙ df in
     clash (pastFileSet es e rights) (both _ _ (not-of-false (isDir es e) d) (not-of-false (within rights fileSet) q)) h)
 
 pub kept-path-added : (T : Tables) (r e rights flags : ℕ) → sound T ≡ true → sound (pathAdded T r e rights flags .left) ≡ true

@@ -104,13 +104,13 @@ module _ (es : List ℕ) (next next′ : ℕ) (Z : Tree es next) (n k d o : ℕ)
       (λ j.
       let y = eqb-false f n j in
       let was : object es e ≡ object es f = sym (object-at e x) ∙ q ∙ object-at f y in (
-        kind-at e x ∙ Z .kinds-agree e f (old e x a) (old f y b) was ∙ sym (kind-at f y),
-        λ h. Z .one-dir e f (old e x a) (old f y b) was (sym (dir-same es new e e (kind-at e x)) ∙ h),
+        kind-at e x ∙ Z .agreed .kinds-agree e f (old e x a) (old f y b) was ∙ sym (kind-at f y),
+        λ h. Z .agreed .one-dir e f (old e x a) (old f y b) was (sym (dir-same es new e e (kind-at e x)) ∙ h),
       )))
 
   pub fill-tree : Tree (putEntry es n k d o) next′
   fill-tree = tree-stays es new next next′ Z (λ x. false) frame grow
-      (record { agree = λ e f a b q. agreed e f a b q .0; alone = λ e f a b q. agreed e f a b q .1 })
+      (record { kinds-agree = λ e f a b q. agreed e f a b q .0; one-dir = λ e f a b q. agreed e f a b q .1 })
       (λ x a. split (eqb x n)
       (λ q.
       let e = eqb-true x n q in
@@ -186,7 +186,7 @@ kept-linked T t s d h = kept-call T (linkChecks T t s d) (outcome (Done (freeEnt
     let small = ltb-true n maxEntries (not-false (ltb n maxEntries) (q .1 .1 .1 .1 .0)) in
     let free = free-entry es small in
     let same : (f : ℕ) → live es f ≡ true → object es f ≡ object es s → (kind es f ≡ kind es s) × (kind es s ≡ directory → ⊥) =
-    λ f a o. (Z .kinds-agree f s a source o, no-dir es s file) in
+    λ f a o. (Z .agreed .kinds-agree f s a source o, no-dir es s file) in
     kept-tables T S (T .system) (linked es s d) (S .lengths .system) refl refl refl (le-refl c) (S .system .counter-high)
     (fill-tree es c c Z n (kind es s) d (object es s) small free home (live-some es s source) (Z .kinds s source) (le-refl c) (Z .objects s source) same)
     (fill-files es c c Z n (kind es s) d (object es s) small free home (live-some es s source) (Z .kinds s source) (le-refl c) (Z .objects s source) same

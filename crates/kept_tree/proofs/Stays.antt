@@ -15,7 +15,7 @@ use Rattle.access.specs.Limits.{maxEntries}
 use Rattle.tables.specs.Tables.{Tables, entryWidth, counter, kind, parent, object, live, isDir}
 use Rattle.sound_tree.specs.Tree.{reaches}
 use Rattle.sound_tree.proofs.Reach.{up, climb-bound}
-use Rattle.sound_tree.proofs.Facts.{Tree}
+use Rattle.sound_tree.proofs.Facts.{Agreed, Tree}
 use Rattle.sound.specs.Sound.{sound}
 use Rattle.sound.proofs.Facts.{Sound}
 use Rattle.tree.specs.Entries.{withEntries}
@@ -43,11 +43,6 @@ pub record Born (es es′ : List ℕ) (gone : ℕ → Bool) (next x : ℕ) : Typ
   pub home-kept : gone (parent es′ x) ≡ false
   pub known : kind es′ x ≤ lastKind
   pub numbered : object es′ x < next
-
--- entries of one object
-pub record Agreed (es : List ℕ) : Type 0 where
-  pub agree : (e f : ℕ) → live es e ≡ true → live es f ≡ true → object es e ≡ object es f → kind es e ≡ kind es f
-  pub alone : (e f : ℕ) → live es e ≡ true → live es f ≡ true → object es e ≡ object es f → isDir es e ≡ true → e ≡ f
 
 module _ (es es′ : List ℕ) (next next′ : ℕ) (Z : Tree es next) (gone : ℕ → Bool) (F : Frame es es′ gone) (grow : next ≤ next′) (A : Agreed es′)
     (born : (x : ℕ) → live es′ x ≡ true → ((live es x ≡ true) × (gone x ≡ false)) ⊎ Born es es′ gone next′ x) where
@@ -92,8 +87,7 @@ module _ (es es′ : List ℕ) (next next′ : ℕ) (Z : Tree es next) (gone : �
             (λ k. k .numbered);
         tops = λ e l. let r = reach e l in climb-bound es′ e (r .0) (λ i. in-table es′ (F .long) (up es′ i e) (up-live es′ dirs i e l)) (r .1);
         free = F .vacant;
-        kinds-agree = A .agree;
-        one-dir = A .alone;
+        agreed = A;
       }
 
 -- ---- a change that brings no entry
@@ -111,8 +105,8 @@ module _ (T : Tables) (S : Sound T) (es : List ℕ) (gone : ℕ → Bool) (F : F
       let old : (e f : ℕ) → live es e ≡ true → live es f ≡ true → object es e ≡ object es f → object (T .entries) e ≡ object (T .entries) f =
       λ e f a b o. sym (same-object e a) ∙ o ∙ same-object f b in
       record {
-        agree = λ e f a b o. same-kind e a ∙ Z .kinds-agree e f (kept e a .0) (kept f b .0) (old e f a b o) ∙ sym (same-kind f b);
-        alone = λ e f a b o d. Z .one-dir e f (kept e a .0) (kept f b .0) (old e f a b o) (sym (dir-same (T .entries) es e e (same-kind e a)) ∙ d);
+        kinds-agree = λ e f a b o. same-kind e a ∙ Z .agreed .kinds-agree e f (kept e a .0) (kept f b .0) (old e f a b o) ∙ sym (same-kind f b);
+        one-dir = λ e f a b o d. Z .agreed .one-dir e f (kept e a .0) (kept f b .0) (old e f a b o) (sym (dir-same (T .entries) es e e (same-kind e a)) ∙ d);
       }
 
   pub kept-change : sound (withEntries T es) ≡ true

@@ -1,5 +1,6 @@
 // A new layer: its record, and how it is counted.
 use access::limits::MAX_LAYERS;
+use access::rights::Rights;
 use cells::row_write;
 use cells::write;
 use tables::rows::LAYER_COUNT;
@@ -39,18 +40,18 @@ pub fn put_layer(
     layers: &mut [u64],
     l: u64,
     parent: u64,
-    fs: u64,
-    net: u64,
-    scope: u64,
+    fs: Rights,
+    net: Rights,
+    scope: Rights,
     first: u64,
     count: u64,
 )
-    ensures { λ r. ⌜ now (layers .exit) ≡ layerRow (now (layers .entry)) l parent fs net scope first count ⌝ }
+    ensures { λ r. ⌜ now (layers .exit) ≡ layerRow (now (layers .entry)) l parent (fs .0) (net .0) (scope .0) first count ⌝ }
 {
     row_write(layers, LAYER_WIDTH, l as usize, LAYER_PARENT, parent);
-    row_write(layers, LAYER_WIDTH, l as usize, LAYER_FS, fs);
-    row_write(layers, LAYER_WIDTH, l as usize, LAYER_NET, net);
-    row_write(layers, LAYER_WIDTH, l as usize, LAYER_SCOPE, scope);
+    row_write(layers, LAYER_WIDTH, l as usize, LAYER_FS, fs.0);
+    row_write(layers, LAYER_WIDTH, l as usize, LAYER_NET, net.0);
+    row_write(layers, LAYER_WIDTH, l as usize, LAYER_SCOPE, scope.0);
     row_write(
         layers,
         LAYER_WIDTH,

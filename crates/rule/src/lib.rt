@@ -3,19 +3,17 @@ use access::errno::Errno;
 use access::limits::MAX_PORT;
 use access::limits::MAX_RULES;
 use access::rights::Rights;
-use cells::row_read;
 use judge::rules::rule_place;
 use judge::rules::ruleset_rules;
 use tables::rows::PATH_RULE;
 use tables::rows::PORT_RULE;
-use tables::rows::RULESET_COUNT;
-use tables::rows::RULESET_FS;
-use tables::rows::RULESET_NET;
-use tables::rows::RULESET_WIDTH;
 use tables::rows::entry_live;
 use tables::rows::level_of;
 use tables::rows::object_of;
 use tables::rows::past_file_set;
+use tables::rows::ruleset_count;
+use tables::rows::ruleset_fs;
+use tables::rows::ruleset_net;
 use tables::rows::ruleset_open;
 ghost use mathlib.Core.Path.{_≡_};
 ghost use Prim.Native.Nat.{_<_};
@@ -51,7 +49,7 @@ pub fn place_in(rulesets: &[u64], r: u64, ty: u64, key: u64) -> usize
 fn is_full(rulesets: &[u64], r: u64, ty: u64, key: u64) -> bool
     ensures { λ q. ⌜ q ≡ isFull (now (rulesets .entry)) r ty key ⌝ }
 {
-    let count = row_read(rulesets, RULESET_WIDTH, r as usize, RULESET_COUNT);
+    let count = ruleset_count(rulesets, r);
     if count > place_in(rulesets, r, ty, key) as u64 {
         return false;
     }
@@ -71,7 +69,7 @@ fn is_sweeping(e: u64, rights: Rights) -> bool
 fn path_form(entries: &[u64], rulesets: &[u64], r: u64, e: u64, rights: Rights) -> u64
     ensures { λ q. ⌜ q ≡ first (pathForm (now (entries .entry)) (now (rulesets .entry)) r e (rights .0)) ⌝ }
 {
-    let fs = Rights(row_read(rulesets, RULESET_WIDTH, r as usize, RULESET_FS));
+    let fs = ruleset_fs(rulesets, r);
     if !fs.contains(rights) {
         return Errno::EINVAL.0;
     }
@@ -93,7 +91,7 @@ fn path_form(entries: &[u64], rulesets: &[u64], r: u64, e: u64, rights: Rights) 
 fn port_form(rulesets: &[u64], r: u64, port: u64, rights: Rights) -> u64
     ensures { λ q. ⌜ q ≡ first (portForm (now (rulesets .entry)) r port (rights .0)) ⌝ }
 {
-    let net = Rights(row_read(rulesets, RULESET_WIDTH, r as usize, RULESET_NET));
+    let net = ruleset_net(rulesets, r);
     if !net.contains(rights) {
         return Errno::EINVAL.0;
     }

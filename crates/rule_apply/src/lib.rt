@@ -10,12 +10,14 @@ use rule::add_port_checks;
 use rule::place_in;
 use tables::rows::PATH_RULE;
 use tables::rows::PORT_RULE;
+use tables::rows::RULE_KEY;
 use tables::rows::RULE_RIGHTS;
 use tables::rows::RULE_WIDTH;
 use tables::rows::RULESET_COUNT;
 use tables::rows::RULESET_HEAD;
 use tables::rows::RULESET_WIDTH;
 use tables::rows::object_of;
+use tables::rows::ruleset_count;
 ghost use mathlib.Core.Path.{_≡_};
 ghost use Prim.Native.Nat.{_^_, _<_};
 ghost use Rattle.access.specs.Limits.{maxRules};
@@ -37,10 +39,16 @@ fn append_rule(rulesets: &mut [u64], r: u64, i: u64, ty: u64, key: u64, rights: 
     requires { ⌜ i < maxRules ⌝ }
     ensures { λ q. ⌜ now (rulesets .exit) ≡ appended (now (rulesets .entry)) r i ty key (rights .0) ⌝ }
 {
-    let k = RULESET_HEAD + 3 * (i as usize);
+    let k = RULESET_HEAD + RULE_WIDTH * (i as usize);
     row_write(rulesets, RULESET_WIDTH, r as usize, k, ty);
-    row_write(rulesets, RULESET_WIDTH, r as usize, k + 1, key);
-    row_write(rulesets, RULESET_WIDTH, r as usize, k + 2, rights.0);
+    row_write(rulesets, RULESET_WIDTH, r as usize, k + RULE_KEY, key);
+    row_write(
+        rulesets,
+        RULESET_WIDTH,
+        r as usize,
+        k + RULE_RIGHTS,
+        rights.0,
+    );
     row_write(rulesets, RULESET_WIDTH, r as usize, RULESET_COUNT, i + 1);
 }
 
@@ -49,7 +57,7 @@ fn apply_add(rulesets: &mut [u64], r: u64, ty: u64, key: u64, rights: Rights)
     ensures { λ q. ⌜ now (rulesets .exit) ≡ added (now (rulesets .entry)) r ty key (rights .0) ⌝ }
 {
     let place = place_in(rulesets, r, ty, key);
-    let count = row_read(rulesets, RULESET_WIDTH, r as usize, RULESET_COUNT);
+    let count = ruleset_count(rulesets, r);
     if count > place as u64 {
         join_rule(rulesets, r, place, rights);
         return;

@@ -10,6 +10,13 @@ fn byte(bytes: &[u8], i: usize) -> u64
     if i < bytes.len() { bytes[i] as u64 } else { 0 }
 }
 
+// Where each mask starts.
+pub const FS_AT: usize = 0;
+
+pub const NET_AT: usize = 8;
+
+pub const SCOPE_AT: usize = 16;
+
 // The mask that eight bytes from `at` on make.
 pub fn mask(bytes: &[u8], at: usize) -> u64
     ensures { λ r. ⌜ r ≡ number (now (bytes .entry)) at 8 ⌝ }

@@ -1,4 +1,7 @@
 // When create is refused.
+use crate::attribute::FS_AT;
+use crate::attribute::NET_AT;
+use crate::attribute::SCOPE_AT;
 use crate::attribute::is_stray;
 use crate::attribute::known_size;
 use crate::attribute::mask;
@@ -52,9 +55,9 @@ fn create_masks(system: &[u64], rulesets: &[u64], bytes: &[u8]) -> u64
     ensures { λ r. ⌜ r ≡ first (createMasks (now (system .entry)) (now (rulesets .entry)) (now (bytes .entry))) ⌝ }
 {
     let level = level_of(system);
-    let fs = Rights(mask(bytes, 0));
-    let net = Rights(mask(bytes, 8));
-    let scope = Rights(mask(bytes, 16));
+    let fs = Rights(mask(bytes, FS_AT));
+    let net = Rights(mask(bytes, NET_AT));
+    let scope = Rights(mask(bytes, SCOPE_AT));
     if is_stray(bytes, known_size(level)) {
         return Errno::E2BIG.0;
     }

@@ -4,6 +4,9 @@ use access::errno::Reply;
 use cells::copy;
 use cells::row_start;
 use cells::row_write;
+use ruleset::attribute::FS_AT;
+use ruleset::attribute::NET_AT;
+use ruleset::attribute::SCOPE_AT;
 use ruleset::attribute::mask;
 use ruleset::create::create_checks;
 use ruleset::create::free_ruleset;
@@ -23,9 +26,15 @@ ghost use Rattle.ruleset.specs.Create.{createChecks, opened, createDone, closeC
 fn apply_create(rulesets: &mut [u64], r: usize, bytes: &[u8])
     ensures { λ q. ⌜ now (rulesets .exit) ≡ opened (now (rulesets .entry)) r (fsMask (now (bytes .entry))) (netMask (now (bytes .entry))) (scopeMask (now (bytes .entry))) ⌝ }
 {
-    row_write(rulesets, RULESET_WIDTH, r, RULESET_FS, mask(bytes, 0));
-    row_write(rulesets, RULESET_WIDTH, r, RULESET_NET, mask(bytes, 8));
-    row_write(rulesets, RULESET_WIDTH, r, RULESET_SCOPE, mask(bytes, 16));
+    row_write(rulesets, RULESET_WIDTH, r, RULESET_FS, mask(bytes, FS_AT));
+    row_write(rulesets, RULESET_WIDTH, r, RULESET_NET, mask(bytes, NET_AT));
+    row_write(
+        rulesets,
+        RULESET_WIDTH,
+        r,
+        RULESET_SCOPE,
+        mask(bytes, SCOPE_AT),
+    );
 }
 
 fn close_checks(

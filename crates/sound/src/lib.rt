@@ -9,6 +9,8 @@ use sound_holders::domains_sound;
 use sound_objects::rows_used;
 use sound_rulesets::rulesets_sound;
 use sound_runs::layers_sound;
+use tables::rows::RULESET_NET;
+use tables::rows::RULESET_SCOPE;
 use tables::rows::RULESET_WIDTH;
 use tables::rows::SYSTEM_COUNTER;
 use tables::rows::SYSTEM_LAYERS;
@@ -49,8 +51,8 @@ fn any_open(rulesets: &[u64]) -> bool
     while r < MAX_RULESETS {
         let at = RULESET_WIDTH * r;
         let fs = Rights(rulesets[at]);
-        let net = Rights(rulesets[at + 1]);
-        if handles_any(fs, net, Rights(rulesets[at + 2])) {
+        let net = Rights(rulesets[at + RULESET_NET]);
+        if handles_any(fs, net, Rights(rulesets[at + RULESET_SCOPE])) {
             return true;
         }
         r += 1;

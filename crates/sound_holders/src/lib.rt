@@ -6,10 +6,12 @@ use access::limits::MAX_THREADS;
 use cells::read;
 use cells::row_read;
 use sound_domains::threads_sound;
-use tables::rows::LAYER_HOLDERS;
 use tables::rows::LAYER_PARENT;
 use tables::rows::LAYER_WIDTH;
 use tables::rows::THREAD_WIDTH;
+use tables::rows::THREAD_YOUNGEST;
+use tables::rows::layer_holders;
+use tables::rows::layer_parent;
 ghost use mathlib.Core.Path.{_≡_};
 ghost use Prim.Native.Nat.{ℕ, _+_, _-_, _*_, _<_, _≤_};
 ghost use lib.ListN.{length, getD};
@@ -79,13 +81,13 @@ fn place_sound(layers: &[u64], counts: &[u64], l: usize, d: u64) -> bool
     requires { ⌜ d ≡ depth (now layers) maxDomain (l + 1) ⌝ }
     ensures { λ r. ⌜ r ≡ placeCounted (now (layers .entry)) (now (counts .entry)) l ⌝ }
 {
-    if row_read(layers, LAYER_WIDTH, l, LAYER_PARENT) > MAX_LAYERS as u64 {
+    if layer_parent(layers, l as u64) > MAX_LAYERS as u64 {
         return false;
     }
     if d > MAX_DOMAIN as u64 {
         return false;
     }
-    row_read(layers, LAYER_WIDTH, l, LAYER_HOLDERS) == read(counts, l)
+    layer_holders(layers, l as u64) == read(counts, l)
 }
 
 fn places_sound(layers: &[u64], counts: &[u64]) -> bool
@@ -111,8 +113,14 @@ fn hierarchy_sound(layers: &[u64], threads: &[u64]) -> bool
     ensures { λ r. ⌜ r ≡ hierarchySound (now (layers .entry)) (now (threads .entry)) ⌝ }
 {
     let mut counts = [0u64; MAX_LAYERS];
-    count_rows(&mut counts, layers, LAYER_WIDTH, 0, MAX_LAYERS);
-    count_rows(&mut counts, threads, THREAD_WIDTH, 1, MAX_THREADS);
+    count_rows(&mut counts, layers, LAYER_WIDTH, LAYER_PARENT, MAX_LAYERS);
+    count_rows(
+        &mut counts,
+        threads,
+        THREAD_WIDTH,
+        THREAD_YOUNGEST,
+        MAX_THREADS,
+    );
     places_sound(layers, &counts)
 }
 

@@ -1,5 +1,6 @@
 // Rules are sound, and no two have the same type and key.
 use access::rights::Rights;
+use bitmap::WORD_BITS;
 use bitmap::is_set;
 use bitmap::set_flag;
 use sound_rules::cells_sound;
@@ -15,6 +16,9 @@ ghost use Rattle.tables.specs.Tables.{entryWidth, ruleType, ruleKey};
 ghost use Rattle.sound_objects.specs.Objects.{Indexed};
 ghost use Rattle.sound_rules.specs.Flags.{flagOf, keyIs, Marked};
 ghost use Rattle.sound_rules.specs.Rules.{newKey, ruleCount, rulesSound};
+
+// The flags of keys.
+const FLAGS: u64 = 1024;
 
 // Rule `j` has the type and the key.
 fn same_key(rules: &[u64], j: usize, ty: u64, key: u64) -> bool
@@ -45,7 +49,7 @@ fn new_key(rules: &[u64], i: usize, ty: u64, key: u64) -> bool
 fn flag_of(key: u64) -> usize
     ensures { λ r. ⌜ r ≡ flagOf key ⌝ }
 {
-    (key % 1024) as usize
+    (key % FLAGS) as usize
 }
 
 // The key of rule `i` is new: a clear flag tells so, and gets set; where it is set already, the rules before decide.
@@ -75,7 +79,7 @@ pub fn rules_sound(
     ensures { λ r. ⌜ r ≡ rulesSound (now (entries .entry)) next (fs .0) (net .0) (now (rules .entry)) ⌝ }
 {
     let n = rules.len() / RULE_WIDTH;
-    let mut seen = [0u64; 16];
+    let mut seen = [0u64; FLAGS as usize / WORD_BITS];
     let mut i = 0;
     while i < n {
         let ty = rules[RULE_WIDTH * i];

@@ -1,9 +1,11 @@
 // The rows of the entries, each by itself: the root, free rows, kinds, parents and objects.
 use access::limits::MAX_ENTRIES;
 use tables::rows::DIRECTORY;
+use tables::rows::ENTRY_KIND;
 use tables::rows::ENTRY_OBJECT;
 use tables::rows::ENTRY_PARENT;
 use tables::rows::ENTRY_WIDTH;
+use tables::rows::LAST_KIND;
 ghost use mathlib.Core.Path.{_≡_};
 ghost use mathlib.Core.Bool.{true};
 ghost use Prim.Native.Nat.{_+_, _*_, _<_};
@@ -19,13 +21,13 @@ pub fn root_sound(entries: &[u64]) -> bool
     requires { ⌜ length (now entries) ≡ entryWidth * maxEntries ⌝ }
     ensures { λ r. ⌜ r ≡ rootSound (now (entries .entry)) ⌝ }
 {
-    if entries[0] != DIRECTORY {
+    if entries[ENTRY_KIND] != DIRECTORY {
         return false;
     }
-    if entries[1] != 0 {
+    if entries[ENTRY_PARENT] != 0 {
         return false;
     }
-    entries[2] == 0
+    entries[ENTRY_OBJECT] == 0
 }
 
 // The entry's row is sound, but for its climb.
@@ -42,7 +44,7 @@ fn row_sound(entries: &[u64], next: u64, e: usize) -> bool
         }
         return object == 0;
     }
-    if kind > 7 {
+    if kind > LAST_KIND {
         return false;
     }
     if parent >= MAX_ENTRIES {

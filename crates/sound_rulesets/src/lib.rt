@@ -6,7 +6,10 @@ use sound_keys::rules_sound;
 use sound_rules::masks_known;
 use sound_zero::all_zero;
 use tables::rows::RULE_WIDTH;
+use tables::rows::RULESET_COUNT;
 use tables::rows::RULESET_HEAD;
+use tables::rows::RULESET_NET;
+use tables::rows::RULESET_SCOPE;
 use tables::rows::RULESET_WIDTH;
 use tables::rows::handles_any;
 ghost use mathlib.Core.Path.{_≡_};
@@ -32,12 +35,12 @@ fn ruleset_sound(
     let at = RULESET_WIDTH * r;
     let end = at + RULESET_WIDTH;
     let fs = Rights(rulesets[at]);
-    let net = Rights(rulesets[at + 1]);
-    let scope = Rights(rulesets[at + 2]);
+    let net = Rights(rulesets[at + RULESET_NET]);
+    let scope = Rights(rulesets[at + RULESET_SCOPE]);
     if !handles_any(fs, net, scope) {
         return all_zero(&rulesets[at..end]);
     }
-    let count = rulesets[at + 3] as usize;
+    let count = rulesets[at + RULESET_COUNT] as usize;
     if count > MAX_RULES {
         return false;
     }

@@ -2,6 +2,7 @@
 // layers and `taken` pool rules are in use.
 use access::limits::MAX_LAYERS;
 use access::limits::MAX_POOL;
+use bitmap::WORD_BITS;
 use bitmap::take_run;
 use sound_layers::each_sound;
 use sound_zero::all_zero;
@@ -26,7 +27,7 @@ fn runs_sound(layers: &[u64]) -> bool
     requires { ⌜ (length (now layers) ≡ layerWidth * maxLayers) × RunsPlaced (now layers) maxLayers ⌝ }
     ensures { λ r. ⌜ r ≡ allBelow (runSound (now (layers .entry))) maxLayers ⌝ }
 {
-    let mut taken = [0u64; 16];
+    let mut taken = [0u64; MAX_POOL / WORD_BITS];
     let mut l = 0;
     while l < MAX_LAYERS {
         let at = LAYER_WIDTH * l;

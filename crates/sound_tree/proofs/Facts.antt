@@ -16,6 +16,13 @@ use Rattle.access.specs.Limits.{maxEntries}
 use Rattle.tables.specs.Tables.{entryWidth, kind, parent, object, live, isDir}
 use Rattle.sound_tree.specs.Tree.{rootSound, reaches, liveSound, freeSound, entrySound, sameObject, linkSound, linksSound, entriesSound}
 
+-- entries of one object
+pub record Agreed (es : List ℕ) : Type 0 where
+  -- "entries of one object agree in kind"
+  pub kinds-agree : (e f : ℕ) → live es e ≡ true → live es f ≡ true → object es e ≡ object es f → kind es e ≡ kind es f
+  -- "a directory object has one entry"
+  pub one-dir : (e f : ℕ) → live es e ≡ true → live es f ≡ true → object es e ≡ object es f → isDir es e ≡ true → e ≡ f
+
 pub record Tree (es : List ℕ) (next : ℕ) : Type 0 where
   -- "table lengths are right"
   pub long : length es ≡ entryWidth * maxEntries
@@ -35,10 +42,7 @@ pub record Tree (es : List ℕ) (next : ℕ) : Type 0 where
   pub tops : (e : ℕ) → live es e ≡ true → reaches es maxEntries e ≡ true
   -- "free space is zero": a free row has kind 0
   pub free : (e : ℕ) → live es e ≡ false → (parent es e ≡ 0) × (object es e ≡ 0)
-  -- "entries of one object agree in kind"
-  pub kinds-agree : (e f : ℕ) → live es e ≡ true → live es f ≡ true → object es e ≡ object es f → kind es e ≡ kind es f
-  -- "a directory object has one entry"
-  pub one-dir : (e f : ℕ) → live es e ≡ true → live es f ≡ true → object es e ≡ object es f → isDir es e ≡ true → e ≡ f
+  pub agreed : Agreed es
 
 -- two entries of one object
 linked : (es : List ℕ) (e f : ℕ) → linkSound es e f ≡ true → live es e ≡ true → live es f ≡ true → object es e ≡ object es f
@@ -79,16 +83,17 @@ module _ (es : List ℕ) (w : length es ≡ entryWidth * maxEntries) where
     unfolding linksSound
     pair e f h a b o = linked es e f (all-at (linkSound es e) e f (all-at (linksSound es) maxEntries e pairs (in-table e a)) h) a b o
 
-    agreeing : (e f : ℕ) → live es e ≡ true → live es f ≡ true → object es e ≡ object es f → kind es e ≡ kind es f
-    agreeing e f a b o = split (ltb f e) (λ q. pair e f (ltb-true f e q) a b o .0)
-        (λ q. split (ltb e f) (λ p. sym (pair f e (ltb-true e f p) b a (sym o) .0))
-        (λ p. let g = ltb-false f e q in let k = ltb-false e f p in ap (kind es) (omega arith)))
-
-    alone : (e f : ℕ) → live es e ≡ true → live es f ≡ true → object es e ≡ object es f → isDir es e ≡ true → e ≡ f
-    alone e f a b o d = split (ltb f e) (λ q. clash (isDir es e) d (pair e f (ltb-true f e q) a b o .1))
-        (λ q. split (ltb e f)
-        (λ p. let r = pair f e (ltb-true e f p) b a (sym o) in clash (isDir es e) d (same-dir es e f (sym (r .0)) ∙ r .1))
-        (λ p. let g = ltb-false f e q in let k = ltb-false e f p in omega arith))
+    agreeing : Agreed es
+    agreeing =
+        record {
+          kinds-agree = λ e f a b o. split (ltb f e) (λ q. pair e f (ltb-true f e q) a b o .0)
+              (λ q. split (ltb e f) (λ p. sym (pair f e (ltb-true e f p) b a (sym o) .0))
+              (λ p. let g = ltb-false f e q in let k = ltb-false e f p in ap (kind es) (omega arith)));
+          one-dir = λ e f a b o d. split (ltb f e) (λ q. clash (isDir es e) d (pair e f (ltb-true f e q) a b o .1))
+              (λ q. split (ltb e f)
+              (λ p. let r = pair f e (ltb-true e f p) b a (sym o) in clash (isDir es e) d (same-dir es e f (sym (r .0)) ∙ r .1))
+              (λ p. let g = ltb-false f e q in let k = ltb-false e f p in omega arith));
+        }
 
 pub tree : (es : List ℕ) (next : ℕ) → length es ≡ entryWidth * maxEntries → entriesSound es next ≡ true → Tree es next
 unfolding entriesSound rootSound liveSound
@@ -107,8 +112,7 @@ tree es next w h =
       objects = λ e l. ltb-true (object es e) next (allOf-at _ 2 (alive es w next each e l));
       tops = λ e l. allOf-at _ 3 (alive es w next each e l);
       free = vacant es w next each;
-      kinds-agree = agreeing es w pairs;
-      one-dir = alone es w pairs;
+      agreed = agreeing es w pairs;
     }
 
 -- ---- the way back
@@ -128,8 +132,8 @@ module _ (es : List ℕ) (next : ℕ) (Z : Tree es next) where
       let a = and-l (live es e) (live es f) m in
       let b = and-r (live es e) (live es f) m in
       allOf-of
-      (eq-eqb (kind es e) (kind es f) (Z .kinds-agree e f a b o)
-      also split (isDir es e) (λ d. absurd (let q = Z .one-dir e f a b o d in omega arith)) (not-of-false (isDir es e))
+      (eq-eqb (kind es e) (kind es f) (Z .agreed .kinds-agree e f a b o)
+      also split (isDir es e) (λ d. absurd (let q = Z .agreed .one-dir e f a b o d in omega arith)) (not-of-false (isDir es e))
       also met))
       (λ s. refl)
 

@@ -11,8 +11,8 @@ use cells::row_read;
 ghost use mathlib.Core.Path.{_≡_};
 ghost use Prim.Native.Nat.{_<_};
 ghost use Rattle.laws.specs.Cells.{cell};
-ghost use Rattle.tables.specs.Tables.{entryWidth, before, lengthsRight, level, counter, layersUsed, poolUsed, kind, parent, object, live, isDir, pastFileSet, youngest, threadLive};
-ghost use Rattle.tables.specs.Layers.{handlesAny, isOpen, layerInUse};
+ghost use Rattle.tables.specs.Tables.{entryWidth, before, lengthsRight, level, counter, layersUsed, poolUsed, kind, parent, object, live, isDir, pastFileSet, youngest, noNewPrivs, admin, threadLive};
+ghost use Rattle.tables.specs.Layers.{handlesAny, rulesetFs, rulesetNet, rulesetScope, rulesetCount, isOpen, layerParent, layerFs, layerNet, layerScope, layerFirst, layerCount, layerHolders, layerInUse};
 
 pub const SYSTEM_WIDTH: usize = 4;
 
@@ -50,7 +50,9 @@ pub const SYSTEM_LAYERS: usize = 2;
 
 pub const SYSTEM_POOL: usize = 3;
 
-// The cells of an entry's row; its kind is the first.
+// The cells of an entry's row.
+pub const ENTRY_KIND: usize = 0;
+
 pub const ENTRY_PARENT: usize = 1;
 
 pub const ENTRY_OBJECT: usize = 2;
@@ -100,6 +102,8 @@ pub const PORT_RULE: u64 = 2;
 
 // The kind of a directory.
 pub const DIRECTORY: u64 = 2;
+// The largest number of a kind.
+pub const LAST_KIND: u64 = 7;
 
 // Every table has its length.
 pub fn lengths_right(
@@ -172,19 +176,19 @@ fn entry_cell(entries: &[u64], e: u64, k: usize) -> u64
 pub fn kind_of(entries: &[u64], e: u64) -> u64
     ensures { λ r. ⌜ r ≡ kind (now (entries .entry)) e ⌝ }
 {
-    entry_cell(entries, e, 0)
+    entry_cell(entries, e, ENTRY_KIND)
 }
 
 pub fn parent_of(entries: &[u64], e: u64) -> u64
     ensures { λ r. ⌜ r ≡ parent (now (entries .entry)) e ⌝ }
 {
-    entry_cell(entries, e, 1)
+    entry_cell(entries, e, ENTRY_PARENT)
 }
 
 pub fn object_of(entries: &[u64], e: u64) -> u64
     ensures { λ r. ⌜ r ≡ object (now (entries .entry)) e ⌝ }
 {
-    entry_cell(entries, e, 2)
+    entry_cell(entries, e, ENTRY_OBJECT)
 }
 
 pub fn entry_live(entries: &[u64], e: u64) -> bool
@@ -222,21 +226,88 @@ pub fn handles_any(fs: Rights, net: Rights, scope: Rights) -> bool
     !scope.is_empty()
 }
 
+pub fn ruleset_fs(rulesets: &[u64], r: u64) -> Rights
+    ensures { λ q. ⌜ q .0 ≡ rulesetFs (now (rulesets .entry)) r ⌝ }
+{
+    Rights(row_read(rulesets, RULESET_WIDTH, r as usize, RULESET_FS))
+}
+
+pub fn ruleset_net(rulesets: &[u64], r: u64) -> Rights
+    ensures { λ q. ⌜ q .0 ≡ rulesetNet (now (rulesets .entry)) r ⌝ }
+{
+    Rights(row_read(rulesets, RULESET_WIDTH, r as usize, RULESET_NET))
+}
+
+pub fn ruleset_scope(rulesets: &[u64], r: u64) -> Rights
+    ensures { λ q. ⌜ q .0 ≡ rulesetScope (now (rulesets .entry)) r ⌝ }
+{
+    Rights(row_read(rulesets, RULESET_WIDTH, r as usize, RULESET_SCOPE))
+}
+
+pub fn ruleset_count(rulesets: &[u64], r: u64) -> u64
+    ensures { λ q. ⌜ q ≡ rulesetCount (now (rulesets .entry)) r ⌝ }
+{
+    row_read(rulesets, RULESET_WIDTH, r as usize, RULESET_COUNT)
+}
+
 // The ruleset is open: one of its masks is not zero.
 pub fn ruleset_open(rulesets: &[u64], r: u64) -> bool
     ensures { λ q. ⌜ q ≡ isOpen (now (rulesets .entry)) r ⌝ }
 {
-    let fs = row_read(rulesets, RULESET_WIDTH, r as usize, RULESET_FS);
-    let net = row_read(rulesets, RULESET_WIDTH, r as usize, RULESET_NET);
-    let scope = row_read(rulesets, RULESET_WIDTH, r as usize, RULESET_SCOPE);
-    handles_any(Rights(fs), Rights(net), Rights(scope))
+    let fs = ruleset_fs(rulesets, r);
+    let net = ruleset_net(rulesets, r);
+    let scope = ruleset_scope(rulesets, r);
+    handles_any(fs, net, scope)
+}
+
+// The layer's parent: its number + 1, or 0 for none.
+pub fn layer_parent(layers: &[u64], l: u64) -> u64
+    ensures { λ r. ⌜ r ≡ layerParent (now (layers .entry)) l ⌝ }
+{
+    row_read(layers, LAYER_WIDTH, l as usize, LAYER_PARENT)
+}
+
+pub fn layer_fs(layers: &[u64], l: u64) -> Rights
+    ensures { λ r. ⌜ r .0 ≡ layerFs (now (layers .entry)) l ⌝ }
+{
+    Rights(row_read(layers, LAYER_WIDTH, l as usize, LAYER_FS))
+}
+
+pub fn layer_net(layers: &[u64], l: u64) -> Rights
+    ensures { λ r. ⌜ r .0 ≡ layerNet (now (layers .entry)) l ⌝ }
+{
+    Rights(row_read(layers, LAYER_WIDTH, l as usize, LAYER_NET))
+}
+
+pub fn layer_scope(layers: &[u64], l: u64) -> Rights
+    ensures { λ r. ⌜ r .0 ≡ layerScope (now (layers .entry)) l ⌝ }
+{
+    Rights(row_read(layers, LAYER_WIDTH, l as usize, LAYER_SCOPE))
+}
+
+pub fn layer_first(layers: &[u64], l: u64) -> u64
+    ensures { λ r. ⌜ r ≡ layerFirst (now (layers .entry)) l ⌝ }
+{
+    row_read(layers, LAYER_WIDTH, l as usize, LAYER_FIRST)
+}
+
+pub fn layer_count(layers: &[u64], l: u64) -> u64
+    ensures { λ r. ⌜ r ≡ layerCount (now (layers .entry)) l ⌝ }
+{
+    row_read(layers, LAYER_WIDTH, l as usize, LAYER_COUNT)
+}
+
+pub fn layer_holders(layers: &[u64], l: u64) -> u64
+    ensures { λ r. ⌜ r ≡ layerHolders (now (layers .entry)) l ⌝ }
+{
+    row_read(layers, LAYER_WIDTH, l as usize, LAYER_HOLDERS)
 }
 
 // The layer is in use: something holds it.
 pub fn layer_in_use(layers: &[u64], l: u64) -> bool
     ensures { λ r. ⌜ r ≡ layerInUse (now (layers .entry)) l ⌝ }
 {
-    row_read(layers, LAYER_WIDTH, l as usize, LAYER_HOLDERS) != 0
+    layer_holders(layers, l) != 0
 }
 
 pub fn thread_live(threads: &[u64], t: u64) -> bool
@@ -250,4 +321,16 @@ pub fn youngest_of(threads: &[u64], t: u64) -> u64
     ensures { λ r. ⌜ r ≡ youngest (now (threads .entry)) t ⌝ }
 {
     row_read(threads, THREAD_WIDTH, t as usize, THREAD_YOUNGEST)
+}
+
+pub fn no_new_privs_of(threads: &[u64], t: u64) -> u64
+    ensures { λ r. ⌜ r ≡ noNewPrivs (now (threads .entry)) t ⌝ }
+{
+    row_read(threads, THREAD_WIDTH, t as usize, THREAD_PRIVS)
+}
+
+pub fn admin_of(threads: &[u64], t: u64) -> u64
+    ensures { λ r. ⌜ r ≡ admin (now (threads .entry)) t ⌝ }
+{
+    row_read(threads, THREAD_WIDTH, t as usize, THREAD_ADMIN)
 }

@@ -14,4 +14,4 @@ has-no-room-spec =
     (λ c κs. tt)
     (λ c. no-pool _ _ _ (c .before .before .pool-used .ensures) (c .if2 .taken))
     (λ c. omega arith)
-    (λ c. pool-left _ _ _ (c .before .before .before .before .layers-used .ensures) (c .before .before .before .if1 .left) (c .before .before .pool-used .ensures) (c .if2 .left) (c .before .row-read .ensures)))
+    (λ c. pool-left _ _ _ (c .before .before .before .before .layers-used .ensures) (c .before .before .before .if1 .left) (c .before .before .pool-used .ensures) (c .if2 .left) (c .before .ruleset-count .ensures)))

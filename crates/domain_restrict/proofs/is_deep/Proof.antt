@@ -26,5 +26,5 @@ is-deep-spec =
     (λ c κs. tt)
     (λ c. omega arith)
     (λ c. omega arith)
-    (λ c. let l = c .before .before .before .loop in count-up _ (l .n) (l .at) (l .inv) (omega arith) (c .before .if1 .left) (c .row-read .ensures))
+    (λ c. let l = c .before .before .before .loop in count-up _ (l .n) (l .at) (l .inv) (omega arith) (c .before .if1 .left) (c .layer-parent .ensures))
     (λ c. let l = c .before .loop in count-none _ (l .n) (l .at) (l .inv) (omega arith)))

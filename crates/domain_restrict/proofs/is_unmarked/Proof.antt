@@ -11,6 +11,6 @@ is-unmarked-spec =
     tie.close
     (tie.spec
     (λ c κs. tt)
-    (λ c. rw (ne-eqb _ 0 (λ e. c .if1 .taken (c .before .row-read .ensures ∙ e))))
+    (λ c. rw (ne-eqb _ 0 (λ e. c .if1 .taken (c .before .no-new-privs-of .ensures ∙ e))))
     (λ c κs. tt)
-    (λ c. rw (eq-eqb _ 0 (sym (c .before .before .row-read .ensures) ∙ c .before .if1 .left), c .row-read2 .ensures)))
+    (λ c. rw (eq-eqb _ 0 (sym (c .before .before .no-new-privs-of .ensures) ∙ c .before .if1 .left), c .admin-of .ensures)))

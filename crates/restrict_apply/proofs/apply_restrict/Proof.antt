@@ -24,7 +24,7 @@ apply-restrict-spec =
     (λ c κs.
     let read = c .before .before .before .before .before .before .before .before .before .before .before .before in
     let pre = read .before .before .before .before .before .before .before .before .before .before .before .before .before .before .pre in
-    (pre .0, rw (read .row-read4 .ensures) (pre .1)))
+    (pre .0, rw (read .ruleset-count .ensures) (pre .1)))
     (λ c.
     let free = c .before .before .before .before .before .before .before .before .before .before .before .before .before .before .before .before .before .before .before .before .before .before in
     let e = free .free-layer .ensures in
@@ -41,5 +41,5 @@ apply-restrict-spec =
     let put = count .before .before .before .before in
     let rules = put .before .before .before .before .before .before .before in
     let read = rules .before .before in
-    restricted-by _ _ _ (read .before .before .before .before .before .before .free-layer .ensures) (read .before .before .before .before .pool-used .ensures) (read .before .before .before .row-read .ensures) (read .before .before .row-read2 .ensures) (read .before .row-read3 .ensures) (read .row-read4 .ensures)
+    restricted-by _ _ _ (read .before .before .before .before .before .before .free-layer .ensures) (read .before .before .before .before .pool-used .ensures) (read .before .before .before .ruleset-fs .ensures) (read .before .before .ruleset-net .ensures) (read .before .ruleset-scope .ensures) (read .ruleset-count .ensures)
     (rules .ruleset-rules .ensures) (put .before .youngest-of .ensures) (put .before .before .before .before .before .before .copy .ensures) (put .put-layer .ensures) (count .count-layer .ensures) (row .row-write .ensures)))

@@ -11,5 +11,5 @@ is-full-spec =
     (tie.spec
     (λ c κs. tt)
     (λ c κs. tt)
-    (λ c. let d = c .before in rw (← d .before .row-read .ensures, ← d .place-in .ensures, lt-leb _ _ (c .if1 .taken)))
-    (λ c. let d = c .before in rw (← d .before .row-read .ensures, ← d .place-in .ensures, le-leb _ _ (c .if1 .left))))
+    (λ c. let d = c .before in rw (← d .before .ruleset-count .ensures, ← d .place-in .ensures, lt-leb _ _ (c .if1 .taken)))
+    (λ c. let d = c .before in rw (← d .before .ruleset-count .ensures, ← d .place-in .ensures, le-leb _ _ (c .if1 .left))))

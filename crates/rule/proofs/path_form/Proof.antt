@@ -12,20 +12,20 @@ path-form-spec =
     (tie.spec
     (λ c κs. tt)
     (λ c κs. tt)
-    (λ c. rw (← c .before .before .row-read .ensures) (first-is (search refusals depth 16)))
+    (λ c. rw (← c .before .before .ruleset-fs .ensures) (first-is (search refusals depth 16)))
     (λ c κs. tt)
-    (λ c. rw (← c .before .before .before .before .row-read .ensures) (first-is (search refusals depth 16)))
+    (λ c. rw (← c .before .before .before .before .ruleset-fs .ensures) (first-is (search refusals depth 16)))
     (λ c κs. tt)
-    (λ c. rw (← c .before .before .before .before .before .before .row-read .ensures) (first-is (search refusals depth 16)))
+    (λ c. rw (← c .before .before .before .before .before .before .ruleset-fs .ensures) (first-is (search refusals depth 16)))
     (λ c κs. tt)
-    (λ c. rw (← c .before .before .before .before .before .before .before .before .row-read .ensures) (first-is (search refusals depth 16)))
+    (λ c. rw (← c .before .before .before .before .before .before .before .before .ruleset-fs .ensures) (first-is (search refusals depth 16)))
     (λ c κs. tt)
     (λ c κs. tt)
     (λ c.
     let o = c .before .before in
     let f = o .before .before .before .before .before .before .before in
-    rw (← f .before .before .row-read .ensures, ← o .object-of .ensures) (first-is (miss-not (f .before .contains .ensures) (f .if1 .left) (search refusals depth 16))))
+    rw (← f .before .before .ruleset-fs .ensures, ← o .object-of .ensures) (first-is (miss-not (f .before .contains .ensures) (f .if1 .left) (search refusals depth 16))))
     (λ c.
     let o = c .before .before in
     let f = o .before .before .before .before .before .before .before in
-    rw (← f .before .before .row-read .ensures, ← o .object-of .ensures) (first-is (miss-not (f .before .contains .ensures) (f .if1 .left) (search refusals depth 16)))))
+    rw (← f .before .before .ruleset-fs .ensures, ← o .object-of .ensures) (first-is (miss-not (f .before .contains .ensures) (f .if1 .left) (search refusals depth 16)))))

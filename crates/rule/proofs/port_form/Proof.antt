@@ -12,8 +12,8 @@ port-form-spec =
     (tie.spec
     (λ c κs. tt)
     (λ c κs. tt)
-    (λ c. rw (← c .before .before .row-read .ensures) (first-is (search refusals depth 16)))
-    (λ c. rw (← c .before .before .before .row-read .ensures) (first-is (search refusals depth 16)))
+    (λ c. rw (← c .before .before .ruleset-net .ensures) (first-is (search refusals depth 16)))
+    (λ c. rw (← c .before .before .before .ruleset-net .ensures) (first-is (search refusals depth 16)))
     (λ c κs. tt)
-    (λ c. rw (← c .before .before .before .before .before .row-read .ensures) (first-is (search refusals depth 16)))
-    (λ c. rw (← c .before .before .before .before .before .row-read .ensures) (first-is (search refusals depth 16))))
+    (λ c. rw (← c .before .before .before .before .before .ruleset-net .ensures) (first-is (search refusals depth 16)))
+    (λ c. rw (← c .before .before .before .before .before .ruleset-net .ensures) (first-is (search refusals depth 16))))

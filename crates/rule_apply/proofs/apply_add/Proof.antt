@@ -19,15 +19,15 @@ apply-add-spec =
     (λ c.
     let j = c .before .before in
     let n = j .before .before .before in
-    rw (← n .row-read .ensures, ← n .before .before .place-in .ensures, lt-leb _ _ (j .before .before .if1 .taken)) (j .join-rule .ensures))
+    rw (← n .ruleset-count .ensures, ← n .before .before .place-in .ensures, lt-leb _ _ (j .before .before .if1 .taken)) (j .join-rule .ensures))
     (λ c κs. search needs)
     (λ c. search needs)
     (λ c.
     let j = c .before .before in
     let t = j .before .before in
     let n = t .before .before in
-    rw (← n .row-read .ensures, ← n .before .before .place-in .ensures, le-leb _ _ (t .before .if1 .left), lt-ltb _ _ (t .if2 .taken)) (j .append-rule .ensures))
+    rw (← n .ruleset-count .ensures, ← n .before .before .place-in .ensures, le-leb _ _ (t .before .if1 .left), lt-ltb _ _ (t .if2 .taken)) (j .append-rule .ensures))
     (λ c. search needs)
     (λ c.
     let n = c .before .before in
-    rw (← n .row-read .ensures, ← n .before .before .place-in .ensures, le-leb _ _ (c .before .if1 .left), le-ltb _ _ (c .if2 .left))))
+    rw (← n .ruleset-count .ensures, ← n .before .before .place-in .ensures, le-leb _ _ (c .before .if1 .left), le-ltb _ _ (c .if2 .left))))

@@ -18,4 +18,4 @@ hold-layer-spec =
     (λ c.
     let write = c .before .before in
     let read = write .before .before in
-    more-one _ _ (read .before .before .if1 .left) (read .row-read .ensures) (write .row-write .ensures)))
+    more-one _ _ (read .before .before .if1 .left) (read .layer-holders .ensures) (write .row-write .ensures)))

@@ -19,7 +19,7 @@ layer-missing-spec =
     let r = j .before .before in
     let a = r .before .before .before .before .args in
     missing-is (layerAt (a .layers .now) (a .pool .now) (a .l)) (a .asked .0) (j .before .layer-rules .ensures) (a .entries .now) (a .e)
-    (r .row-read .ensures)
+    (r .layer-fs .ensures)
     (j .handled-by .ensures)
     (c .before .meet .ensures)
     (c .missing-up .ensures)))

@@ -19,7 +19,7 @@ layer-port-missing-spec =
     let r = m .before .before in
     let a = r .before .before .before .args in
     port-missing-is (layerAt (a .layers .now) (a .pool .now) (a .l)) (a .asked .0) (m .before .layer-rules .ensures) (a .port)
-    (r .row-read .ensures)
+    (r .layer-net .ensures)
     (m .meet .ensures)
     (c .before .rights-on .ensures)
     (c .without .ensures)))

@@ -29,5 +29,5 @@ layer-rules-spec =
     let from = more .before .before in
     let n = length (from .before .before .before .before .args .pool .now) in
     part-cut _ _ _ (from .cells-of .result) (more .cells-of2 .result)
-    (from .cells-of .ensures ∙ ap (λ (k : ℕ). min (ruleWidth * k) n) (from .before .row-read .ensures))
-    (more .cells-of2 .ensures ∙ ap (λ (k : ℕ). min (ruleWidth * k) (n - from .cells-of .result)) (more .before .row-read2 .ensures))))
+    (from .cells-of .ensures ∙ ap (λ (k : ℕ). min (ruleWidth * k) n) (from .before .layer-first .ensures))
+    (more .cells-of2 .ensures ∙ ap (λ (k : ℕ). min (ruleWidth * k) (n - from .cells-of .result)) (more .before .layer-count .ensures))))

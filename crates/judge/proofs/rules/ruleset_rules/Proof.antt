@@ -35,4 +35,4 @@ ruleset-rules-spec =
     let from = start .row-start .result + head .smaller .result in
     let e : from ≡ min (rulesetWidth * a .r + rulesetHead) n = past-start (rulesetWidth * a .r) rulesetHead n (start .row-start .result) (head .smaller .result) (start .row-start .ensures) (head .smaller .ensures) in
     part-cut (a .rulesets .now) (rulesetWidth * a .r + rulesetHead) _ from (more .cells-of .result) e
-    (more .cells-of .ensures ∙ ap (λ (k : ℕ). min (ruleWidth * k) (n - from)) (more .before .row-read .ensures))))
+    (more .cells-of .ensures ∙ ap (λ (k : ℕ). min (ruleWidth * k) (n - from)) (more .before .ruleset-count .ensures))))
