@@ -1,15 +1,13 @@
 // What C and Rust call: every call of the broker, with its arguments as numbers and its reply as one number. A call with a verdict also writes a
 // report: the layer that refused (its number + 1, or 0 for none) and what it denies; a shorter one gets the cells that it has.
 use access::rights::Rights;
-use cells::row_read;
 use codes::code_of;
 use codes::number;
 use codes::replaced_by;
 use codes::report;
 use codes::report_denial;
 use judge::rules::cells_of;
-use tables::rows::LAYER_FIRST;
-use tables::rows::LAYER_WIDTH;
+use tables::rows::layer_first;
 ghost use mathlib.Core.Path.{_≡_};
 ghost use mathlib.Core.Bool.{cond};
 ghost use Prim.Native.Nat.{_*_, min};
@@ -39,10 +37,7 @@ fn span_from(layers: &[u64], cells: usize, l: u64, code: u64) -> usize
     if code != 0 {
         return 0;
     }
-    cells_of(
-        row_read(layers, LAYER_WIDTH, l as usize, LAYER_FIRST),
-        cells,
-    )
+    cells_of(layer_first(layers, l), cells)
 }
 
 #[no_mangle]
@@ -322,7 +317,17 @@ pub extern "C" fn skein_create(
 ) -> u64
     ensures { λ answer. ⌜ Tells answer (after system entries rulesets layers pool threads) (now (report .entry)) (now (report .exit)) (treeCreate (before system entries rulesets layers pool threads) t d k) ⌝ }
 {
-    let reply = broker_tree::create::create(system, entries, rulesets, layers, pool, threads, t, d, k);
+    let reply = broker_tree::create::create(
+        system,
+        entries,
+        rulesets,
+        layers,
+        pool,
+        threads,
+        t,
+        d,
+        k,
+    );
     report_denial(report, reply);
     number(reply)
 }
@@ -415,7 +420,18 @@ pub extern "C" fn skein_exchange(
 ) -> u64
     ensures { λ answer. ⌜ Tells answer (after system entries rulesets layers pool threads) (now (report .entry)) (now (report .exit)) (treeExchange (before system entries rulesets layers pool threads) t s d x) ⌝ }
 {
-    let reply = broker_moves::exchange(system, entries, rulesets, layers, pool, threads, t, s, d, x);
+    let reply = broker_moves::exchange(
+        system,
+        entries,
+        rulesets,
+        layers,
+        pool,
+        threads,
+        t,
+        s,
+        d,
+        x,
+    );
     report_denial(report, reply);
     number(reply)
 }

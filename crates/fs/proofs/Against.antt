@@ -1,23 +1,22 @@
 -- What a layer denies at the two directories decides what it holds against a move. Assumes nothing.
 use mathlib.Core.Path.{_≡_, refl, sym, ap, ap₂, _∙_}
-use mathlib.Core.Bool.{Bool, true, false, not, _&&_, _||_, false≢true}
-use mathlib.Core.List.{List, [], _∷_}
+use mathlib.Core.Bool.{Bool, true, false, not, _&&_, false≢true}
+use mathlib.Core.List.{List}
 use Prim.Native.Nat.{ℕ}
 use lib.Dec.{eqb}
-use borrow.Author.Tests.{eqb-true, eqb-false, ne-eqb}
-use Rattle.laws.specs.Tests.{any}
+use borrow.Author.Tests.{eqb-true}
 use Rattle.laws.proofs.Bools.{split, and-l, or-left, or-right}
 use Rattle.access.specs.Rights.{has, join, meet, without, REFER}
-use Rattle.access.proofs.Laws.{has-join, has-meet, has-without, has-none, ext-has, join-some}
-use Rattle.tables.specs.Tables.{Tables, pathRule}
-use Rattle.tables.specs.Layers.{Layer, layerAt}
+use Rattle.access.proofs.Laws.{has-join, has-meet, has-without, has-none, ext-has}
+use Rattle.tables.specs.Tables.{pathRule}
+use Rattle.tables.specs.Layers.{Layer}
 use Rattle.judge.specs.Rules.{rightsOn}
 use Rattle.judge.specs.Judge.{denied, missing, handled, granted}
 use Rattle.judge.proofs.Laws.{has-missing, has-denied}
 use Rattle.fs.specs.declared.verdict.Move.{Move}
-use Rattle.fs.specs.Move.{deniedNeeds, deniedRefer, uncontained, escaping, crossing, layerCrosses}
+use Rattle.fs.specs.Move.{deniedNeeds, deniedRefer, uncontained, escaping}
 use Rattle.fs.specs.Against.{compared, atSource, atTarget, needsAgainst, referAgainst, escapingAgainst, crossedAgainst}
-use Rattle.fs.specs.Blame.{crossed, crossedMove}
+use Rattle.fs.specs.Blame.{crossed}
 
 -- ---- of a larger set, the part
 module _ (es : List ℕ) (L : Layer) (e : ℕ) where
@@ -69,9 +68,6 @@ without-swap a b c = ext-has (without (without a b) c) (without (without a c) b)
     swapped true false true = refl
     swapped true false false = refl
     swapped false y z = refl
-
-join-none : (a : ℕ) → join 0 a ≡ a
-join-none a = ext-has (join 0 a) a (λ i. has-join 0 a i ∙ ap (λ (x : Bool). x || has a i) (has-none i))
 
 -- ---- which sets are parts
 join-l : (a b i : ℕ) → has a i ≡ true → has (join a b) i ≡ true
@@ -141,20 +137,6 @@ module _ (es : List ℕ) (L : Layer) (m : Move) where
   pub crossed-against : crossedAgainst m d1 d2 (rightsOn (L .rules) pathRule (m .object)) (rightsOn (L .rules) pathRule (m .other)) ≡ crossed es L m
   unfolding crossedAgainst crossed
   crossed-against = split (eqb (m .source) (m .target)) (λ q. rw q refl) (λ q. rw (q, refer-against, escaping-against q) refl)
-
-  -- the verdict's number asks only whether the set is empty
-  pub crossed-none : eqb (crossed es L m) 0 ≡ eqb (crossing es L m) 0
-  unfolding crossed crossing
-  crossed-none = split (eqb (m .source) (m .target)) (λ q. rw q refl)
-      (λ q. rw q (split (eqb (deniedRefer es L m) 0)
-      (λ z. rw z (ap (λ (x : ℕ). eqb x 0) (sym (ap (λ (x : ℕ). join x (escaping es L m)) (eqb-true (deniedRefer es L m) 0 z) ∙ join-none (escaping es L m)))))
-      (λ z. rw z (sym (ne-eqb (join (deniedRefer es L m) (escaping es L m)) 0 (join-some (deniedRefer es L m) (escaping es L m) (eqb-false (deniedRefer es L m) 0 z)))))))
-
--- the same over the layers of a domain
-pub crosses-any : (T : Tables) (m : Move) (D : List ℕ) → any (λ l. not (eqb (crossedMove T m l) 0)) D ≡ any (layerCrosses (T .entries) (T .layers) (T .pool) m) D
-unfolding any layerCrosses
-crosses-any T m [] = refl
-crosses-any T m (l ∷ D) = ap₂ _||_ (ap not (crossed-none (T .entries) (layerAt (T .layers) (T .pool) l) m)) (crosses-any T m D)
 
 -- how code comes to the rights that fail containment
 pub escaping-by : (m : Move) (d1 d2 own other : ℕ) {x h t y k s r : ℕ}

@@ -49,5 +49,12 @@ pub fn port(
     if e != 0 {
         return Reply::Refused(Errno(e));
     }
-    thread_denial(entries, layers, pool, threads, t, Question::Port(port, asked)).reply()
+    thread_denial(
+        entries,
+        layers,
+        pool,
+        threads,
+        t,
+        Question::Port(port, asked),
+    ).reply()
 }

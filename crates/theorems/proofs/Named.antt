@@ -13,8 +13,8 @@ use Rattle.laws.proofs.Bools.{split, clash, either, and-l, or-cases, or-left, o
 use Rattle.access.specs.Errno.{EIO, ESRCH, EACCES, EXDEV}
 use Rattle.access.specs.Kinds.{kindOf}
 use Rattle.access.specs.Limits.{maxLayers}
-use Rattle.access.specs.Rights.{has, join, meet, without, within, REFER}
-use Rattle.access.proofs.Laws.{has-join, has-meet, has-without, has-none, ext-has, within-has, has-within}
+use Rattle.access.specs.Rights.{has, join, without, within, REFER}
+use Rattle.access.proofs.Laws.{has-join, has-without, has-none, ext-has, within-has, has-within}
 use Rattle.access.specs.declared.errno.Errno.{Errno}
 use Rattle.access.specs.declared.errno.Reply.{Reply}
 use Rattle.access.specs.declared.errno.Reply.the-variants.{Done, Refused, Denied}
@@ -29,7 +29,7 @@ use Rattle.sound.proofs.Calls.{call-unsound, call-refused, call-done}
 use Rattle.judge.specs.Domain.{lacks, layerLacks, portLacks, layerPortLacks}
 use Rattle.judge.specs.Rules.{rightsOn}
 use Rattle.judge.specs.Judge.{denied, missing, portMissing}
-use Rattle.judge.proofs.Laws.{has-missing}
+use Rattle.judge.proofs.Laws.{has-missing, has-port-missing}
 use Rattle.ruleset.specs.Create.{createForm, createMasks, createChecks, createDone, created, closeChecks, closeDone, closed}
 use Rattle.rule.specs.Rule.{addForm, pathForm, portForm as rulePortForm, addPathChecks, addPortChecks, addDone, pathAdded, portAdded}
 use Rattle.domain_restrict.specs.Restrict.{restrictForm, restrictRoom, restrictChecks, restrictDone, restrictCall}
@@ -40,7 +40,7 @@ use Rattle.kept_end.proofs.Reached.{reached-in-use}
 use Rattle.fs.specs.Needs.{makeOf, removeOf}
 use Rattle.fs.specs.Move.{deniedNeeds, deniedRefer, uncontained, escaping, layerDenies, verdict}
 use Rattle.fs.specs.Blame.{crossed}
-use Rattle.fs.proofs.Against.{crosses-any}
+use Rattle.fs.proofs.Crossed.{crosses-any}
 use Rattle.fs.specs.declared.verdict.Move.{Move}
 use Rattle.fs_access.specs.Access.{accessNames, accessMask, accessChecks, accessCall}
 use Rattle.net.specs.Port.{portForm, portChecks, portCall}
@@ -287,9 +287,7 @@ missing-within : (es : List ℕ) (L : Layer) (e m : ℕ) → within (missing es 
 missing-within es L e m = has-within (missing es L e m) m (λ i h. and-l (has m i) _ (sym (has-missing es L e m i) ∙ h))
 
 port-within : (L : Layer) (p m : ℕ) → within (portMissing L p m) m ≡ true
-unfolding portMissing
-port-within L p m = has-within (portMissing L p m) m (λ i h.
-    and-l (has m i) (has (L .net) i) (sym (has-meet m (L .net) i) ∙ and-l (has (meet m (L .net)) i) _ (sym (has-without (meet m (L .net)) _ i) ∙ h)))
+port-within L p m = has-within (portMissing L p m) m (λ i h. and-l (has m i) _ (sym (has-port-missing L p m i) ∙ h))
 
 -- of two sets joined, each in its part of a join
 join-within : (a b c d : ℕ) → within a c ≡ true → within b d ≡ true → within (join a b) (join c d) ≡ true

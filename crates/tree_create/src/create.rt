@@ -6,6 +6,7 @@ use access::limits::MAX_COUNTER;
 use access::limits::MAX_ENTRIES;
 use cells::write;
 use fs::needs::make_of;
+use tables::rows::LAST_KIND;
 use tables::rows::SYSTEM_COUNTER;
 use tables::rows::counter_of;
 use tables::rows::entry_live;
@@ -36,7 +37,7 @@ fn unknown_kind(k: u64) -> bool
     if k == 0 {
         return true;
     }
-    7 < k
+    LAST_KIND < k
 }
 
 fn create_shape(

@@ -88,7 +88,14 @@ fn exchange_denial(
 ) -> Denial
     ensures { λ r. ⌜ r ≡ threadDenial (now (entries .entry)) (now (layers .entry)) (now (pool .entry)) (now (threads .entry)) t (Question.Move (exchangeMove (now (entries .entry)) s d x)) ⌝ }
 {
-    thread_denial(entries, layers, pool, threads, t, Question::Move(exchange_move(entries, s, d, x)))
+    thread_denial(
+        entries,
+        layers,
+        pool,
+        threads,
+        t,
+        Question::Move(exchange_move(entries, s, d, x)),
+    )
 }
 
 fn exchange_checks(

@@ -69,7 +69,14 @@ fn link_denial(
 ) -> Denial
     ensures { λ r. ⌜ r ≡ threadDenial (now (entries .entry)) (now (layers .entry)) (now (pool .entry)) (now (threads .entry)) t (Question.Move (linkMove (now (entries .entry)) s d)) ⌝ }
 {
-    thread_denial(entries, layers, pool, threads, t, Question::Move(link_move(entries, s, d)))
+    thread_denial(
+        entries,
+        layers,
+        pool,
+        threads,
+        t,
+        Question::Move(link_move(entries, s, d)),
+    )
 }
 
 // `e` is the lowest free entry.

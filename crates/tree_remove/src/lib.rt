@@ -60,7 +60,14 @@ fn remove_denial(
 {
     let directory = parent_of(entries, e);
     let right = remove_of(Kind::of_number(kind_of(entries, e)));
-    thread_denial(entries, layers, pool, threads, t, Question::Entry(directory, right))
+    thread_denial(
+        entries,
+        layers,
+        pool,
+        threads,
+        t,
+        Question::Entry(directory, right),
+    )
 }
 
 fn remove_later(

@@ -92,7 +92,14 @@ fn rename_denial(
 ) -> Denial
     ensures { λ r. ⌜ r ≡ threadDenial (now (entries .entry)) (now (layers .entry)) (now (pool .entry)) (now (threads .entry)) t (Question.Move (renameMove (now (entries .entry)) s d x)) ⌝ }
 {
-    thread_denial(entries, layers, pool, threads, t, Question::Move(rename_move(entries, s, d, x)))
+    thread_denial(
+        entries,
+        layers,
+        pool,
+        threads,
+        t,
+        Question::Move(rename_move(entries, s, d, x)),
+    )
 }
 
 fn rename_later(entries: &[u64], s: u64, x: Replaced) -> u64

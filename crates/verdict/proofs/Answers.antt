@@ -21,7 +21,7 @@ use Rattle.judge.specs.Blame.{none, deniedAt, entryReply, deniedPort, portReply
 use Rattle.fs.specs.declared.verdict.Move.{Move}
 use Rattle.fs.specs.Move.{layerDenies, verdict}
 use Rattle.fs.specs.Blame.{deniedMove, crossedMove, moveReply}
-use Rattle.fs.proofs.Against.{crosses-any}
+use Rattle.fs.proofs.Crossed.{crosses-any}
 use Rattle.verdict.specs.declared.Denial.{Denial}
 use Rattle.verdict.specs.declared.Denial.the-variants.{None, Crossed}
 use Rattle.verdict.specs.declared.Question.{Question}
@@ -54,7 +54,6 @@ module _ (a b : ℕ → ℕ) where
       ∙ ap (λ (x : Bool). cond (any (some a) D) EACCES (cond (x || any (some b) D) EXDEV 0)) (kept-met k l (b l))
       ∙ ap (λ (x : Bool). cond (any (some a) D) EACCES (cond x EXDEV 0)) (or-assoc (not (eqb k 0)) (some b l) (any (some b) D))))
       (λ q. rw q refl)
-
 
   -- ---- the reply, for the two numbers and for none
   denied-reply : (k set : ℕ) (D : List ℕ) → any (some a) D ≡ true → replyOf (denial a b k set D) ≡ blame EACCES a D

@@ -3,14 +3,12 @@ use access::errno::Errno;
 use access::errno::Reply;
 use access::limits::MAX_DOMAIN;
 use access::rights::Rights;
-use cells::row_read;
 use fs::verdict::Move;
 use fs_layer::Against;
 use fs_layer::layer_against;
 use judge::climb::layer_missing;
 use judge::climb::layer_port_missing;
-use tables::rows::LAYER_PARENT;
-use tables::rows::LAYER_WIDTH;
+use tables::rows::layer_parent;
 use tables::rows::youngest_of;
 ghost use mathlib.Core.Path.{_≡_};
 ghost use Rattle.access.specs.Limits.{maxDomain};
@@ -101,7 +99,7 @@ fn domain_denial(entries: &[u64], layers: &[u64], pool: &[u64], y: u64, q: Quest
         let crossed = held.crossed;
         set = kept_set(k, set, crossed);
         k = kept_at(k, at, crossed);
-        at = row_read(layers, LAYER_WIDTH, (at - 1) as usize, LAYER_PARENT);
+        at = layer_parent(layers, at - 1);
         n -= 1;
     }
     crossed_at(k, set)
