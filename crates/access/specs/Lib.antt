@@ -2,4 +2,5 @@
 pub mod Rights
 pub mod Kinds
 pub mod Errno
+pub mod Reply
 pub mod Limits

@@ -1,4 +1,7 @@
 // What a call answers.
+use crate::rights::Rights;
+ghost use mathlib.Core.Path.{_≡_};
+ghost use Rattle.access.specs.Reply.{isRefused, replyTo};
 
 // An error number, by its Linux name.
 pub struct Errno(pub u64);
@@ -43,8 +46,32 @@ impl Errno {
     pub const EOPNOTSUPP: Errno = Errno(95);
 }
 
-// A success with its number (the new entry, ruleset or thread, otherwise 0), or a refusal.
+// A success with its number (the new entry, ruleset or thread, otherwise 0), a refusal, or the refusal of a verdict, with the youngest layer that
+// denies something and what it denies.
 pub enum Reply {
     Done(u64),
     Refused(Errno),
+    Denied(Errno, u64, Rights),
+}
+
+impl Reply {
+    // The reply to a number of refusals: 0 for none.
+    pub fn to(e: u64) -> Reply
+        ensures { λ r. ⌜ r ≡ replyTo e ⌝ }
+    {
+        if e == 0 {
+            return Reply::Done(0);
+        }
+        Reply::Refused(Errno(e))
+    }
+
+    pub fn is_refused(self) -> bool
+        ensures { λ r. ⌜ r ≡ isRefused self ⌝ }
+    {
+        match self {
+            Reply::Done(_) => false,
+            Reply::Refused(_) => true,
+            Reply::Denied(_, _, _) => true,
+        }
+    }
 }

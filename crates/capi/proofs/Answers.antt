@@ -1,7 +1,7 @@
 -- How an exported call comes to its number, for any call. Assumes nothing.
 use mathlib.Core.Path.{_≡_, refl, ap, _∙_}
 use mathlib.Core.Bool.{not}
-use mathlib.Core.List.{_∷_}
+use mathlib.Core.List.{List, _∷_}
 use Prim.Native.Nat.{ℕ}
 use lib.Dec.{eqb}
 use Rattle.laws.specs.Refusals.{_⇒_, first}
@@ -13,11 +13,14 @@ use Rattle.tables.specs.Outcome.{Outcome, outcome, answer}
 use Rattle.sound.specs.Sound.{sound}
 use Rattle.sound.specs.Call.{call}
 use Rattle.domain.specs.Layer.{layerChecks, layerRead, layerCode}
-use Rattle.codes.specs.Codes.{codeOf, number}
-use Rattle.capi.specs.Codes.{Answers}
+use Rattle.codes.specs.Codes.{codeOf, number, reported}
+use Rattle.capi.specs.Codes.{Answers, Tells}
 
 pub answers : (T : Tables) (o : Outcome) {a : Reply} {r : ℕ} → outcome a T ≡ o → r ≡ number a → Answers r T o
 answers T o h k = (k ∙ ap (λ (x : Outcome). number (x .reply)) h, ap (λ (x : Outcome). x .left) h)
+
+pub tells : (T : Tables) (o : Outcome) (cells : List ℕ) {cells′ : List ℕ} {a : Reply} {r : ℕ} → outcome a T ≡ o → r ≡ number a → cells′ ≡ reported cells a → Tells r T cells cells′ o
+tells T o cells h k w = (answers T o h k, w ∙ ap (λ (x : Outcome). reported cells (x .reply)) h)
 
 -- a layer's rules: the code that comes beside the part
 pub layer-number : (T : Tables) (l : ℕ) → codeOf (layerCode T l) ≡ number (layerRead T l .reply)

@@ -1,13 +1,13 @@
-// What C and Rust call: every call of the broker, with its arguments as numbers and its reply as one number.
+// What C and Rust call: every call of the broker, with its arguments as numbers and its reply as one number. A call with a verdict also writes a
+// report: the layer that refused (its number + 1, or 0 for none) and what it denies; a shorter one gets the cells that it has.
 use access::rights::Rights;
-use cells::row_read;
 use codes::code_of;
 use codes::number;
 use codes::replaced_by;
 use codes::report;
+use codes::report_denial;
 use judge::rules::cells_of;
-use tables::rows::LAYER_FIRST;
-use tables::rows::LAYER_WIDTH;
+use tables::rows::layer_first;
 ghost use mathlib.Core.Path.{_≡_};
 ghost use mathlib.Core.Bool.{cond};
 ghost use Prim.Native.Nat.{_*_, min};
@@ -29,7 +29,7 @@ ghost use Rattle.tree.specs.Link.{treeLink};
 ghost use Rattle.tree.specs.Rename.{treeRename};
 ghost use Rattle.tree.specs.Exchange.{treeExchange};
 ghost use Rattle.codes.specs.Codes.{replacedBy};
-ghost use Rattle.capi.specs.Codes.{Answers, spanFrom};
+ghost use Rattle.capi.specs.Codes.{Answers, Tells, spanFrom};
 
 fn span_from(layers: &[u64], cells: usize, l: u64, code: u64) -> usize
     ensures { λ r. ⌜ r ≡ cond (eqb code 0) (min (ruleWidth * layerFirst (now (layers .entry)) l) cells) 0 ⌝ }
@@ -37,10 +37,7 @@ fn span_from(layers: &[u64], cells: usize, l: u64, code: u64) -> usize
     if code != 0 {
         return 0;
     }
-    cells_of(
-        row_read(layers, LAYER_WIDTH, l as usize, LAYER_FIRST),
-        cells,
-    )
+    cells_of(layer_first(layers, l), cells)
 }
 
 #[no_mangle]
@@ -256,10 +253,11 @@ pub extern "C" fn skein_access(
     t: u64,
     e: u64,
     rights: u64,
+    report: &mut [u64],
 ) -> u64
-    ensures { λ answer. ⌜ Answers answer (after system entries rulesets layers pool threads) (accessCall (before system entries rulesets layers pool threads) t e rights) ⌝ }
+    ensures { λ answer. ⌜ Tells answer (after system entries rulesets layers pool threads) (now (report .entry)) (now (report .exit)) (accessCall (before system entries rulesets layers pool threads) t e rights) ⌝ }
 {
-    number(broker::entries::access(
+    let reply = broker::entries::access(
         system,
         entries,
         rulesets,
@@ -269,7 +267,9 @@ pub extern "C" fn skein_access(
         t,
         e,
         Rights(rights),
-    ))
+    );
+    report_denial(report, reply);
+    number(reply)
 }
 
 #[no_mangle]
@@ -283,10 +283,11 @@ pub extern "C" fn skein_port(
     t: u64,
     p: u64,
     rights: u64,
+    report: &mut [u64],
 ) -> u64
-    ensures { λ answer. ⌜ Answers answer (after system entries rulesets layers pool threads) (portCall (before system entries rulesets layers pool threads) t p rights) ⌝ }
+    ensures { λ answer. ⌜ Tells answer (after system entries rulesets layers pool threads) (now (report .entry)) (now (report .exit)) (portCall (before system entries rulesets layers pool threads) t p rights) ⌝ }
 {
-    number(broker::ports::port(
+    let reply = broker::ports::port(
         system,
         entries,
         rulesets,
@@ -296,7 +297,9 @@ pub extern "C" fn skein_port(
         t,
         p,
         Rights(rights),
-    ))
+    );
+    report_denial(report, reply);
+    number(reply)
 }
 
 #[no_mangle]
@@ -310,10 +313,23 @@ pub extern "C" fn skein_create(
     t: u64,
     d: u64,
     k: u64,
+    report: &mut [u64],
 ) -> u64
-    ensures { λ answer. ⌜ Answers answer (after system entries rulesets layers pool threads) (treeCreate (before system entries rulesets layers pool threads) t d k) ⌝ }
+    ensures { λ answer. ⌜ Tells answer (after system entries rulesets layers pool threads) (now (report .entry)) (now (report .exit)) (treeCreate (before system entries rulesets layers pool threads) t d k) ⌝ }
 {
-    number(broker_tree::create::create(system, entries, rulesets, layers, pool, threads, t, d, k))
+    let reply = broker_tree::create::create(
+        system,
+        entries,
+        rulesets,
+        layers,
+        pool,
+        threads,
+        t,
+        d,
+        k,
+    );
+    report_denial(report, reply);
+    number(reply)
 }
 
 #[no_mangle]
@@ -326,10 +342,13 @@ pub extern "C" fn skein_remove(
     threads: &[u64],
     t: u64,
     e: u64,
+    report: &mut [u64],
 ) -> u64
-    ensures { λ answer. ⌜ Answers answer (after system entries rulesets layers pool threads) (treeRemove (before system entries rulesets layers pool threads) t e) ⌝ }
+    ensures { λ answer. ⌜ Tells answer (after system entries rulesets layers pool threads) (now (report .entry)) (now (report .exit)) (treeRemove (before system entries rulesets layers pool threads) t e) ⌝ }
 {
-    number(broker_tree::remove::remove(system, entries, rulesets, layers, pool, threads, t, e))
+    let reply = broker_tree::remove::remove(system, entries, rulesets, layers, pool, threads, t, e);
+    report_denial(report, reply);
+    number(reply)
 }
 
 #[no_mangle]
@@ -343,10 +362,13 @@ pub extern "C" fn skein_link(
     t: u64,
     s: u64,
     d: u64,
+    report: &mut [u64],
 ) -> u64
-    ensures { λ answer. ⌜ Answers answer (after system entries rulesets layers pool threads) (treeLink (before system entries rulesets layers pool threads) t s d) ⌝ }
+    ensures { λ answer. ⌜ Tells answer (after system entries rulesets layers pool threads) (now (report .entry)) (now (report .exit)) (treeLink (before system entries rulesets layers pool threads) t s d) ⌝ }
 {
-    number(broker_moves::link(system, entries, rulesets, layers, pool, threads, t, s, d))
+    let reply = broker_moves::link(system, entries, rulesets, layers, pool, threads, t, s, d);
+    report_denial(report, reply);
+    number(reply)
 }
 
 #[no_mangle]
@@ -362,10 +384,11 @@ pub extern "C" fn skein_rename(
     d: u64,
     replaces: u64,
     x: u64,
+    report: &mut [u64],
 ) -> u64
-    ensures { λ answer. ⌜ Answers answer (after system entries rulesets layers pool threads) (treeRename (before system entries rulesets layers pool threads) t s d (replacedBy replaces x)) ⌝ }
+    ensures { λ answer. ⌜ Tells answer (after system entries rulesets layers pool threads) (now (report .entry)) (now (report .exit)) (treeRename (before system entries rulesets layers pool threads) t s d (replacedBy replaces x)) ⌝ }
 {
-    number(broker_moves::rename(
+    let reply = broker_moves::rename(
         system,
         entries,
         rulesets,
@@ -376,7 +399,9 @@ pub extern "C" fn skein_rename(
         s,
         d,
         replaced_by(replaces, x),
-    ))
+    );
+    report_denial(report, reply);
+    number(reply)
 }
 
 #[no_mangle]
@@ -391,10 +416,24 @@ pub extern "C" fn skein_exchange(
     s: u64,
     d: u64,
     x: u64,
+    report: &mut [u64],
 ) -> u64
-    ensures { λ answer. ⌜ Answers answer (after system entries rulesets layers pool threads) (treeExchange (before system entries rulesets layers pool threads) t s d x) ⌝ }
+    ensures { λ answer. ⌜ Tells answer (after system entries rulesets layers pool threads) (now (report .entry)) (now (report .exit)) (treeExchange (before system entries rulesets layers pool threads) t s d x) ⌝ }
 {
-    number(broker_moves::exchange(system, entries, rulesets, layers, pool, threads, t, s, d, x))
+    let reply = broker_moves::exchange(
+        system,
+        entries,
+        rulesets,
+        layers,
+        pool,
+        threads,
+        t,
+        s,
+        d,
+        x,
+    );
+    report_denial(report, reply);
+    number(reply)
 }
 
 // `span` receives the first pool cell of the layer's rules and their number of cells.

@@ -1,9 +1,12 @@
--- The number that stands for a reply, and the numbers that stand for an entry or none.
+-- The numbers that stand for a reply, and for an entry or none.
 use mathlib.Core.Bool.{cond}
-use Prim.Native.Nat.{ℕ, _-_, _^_}
-use lib.Dec.{eqb}
+use mathlib.Core.List.{List}
+use Prim.Native.Nat.{ℕ, _+_, _-_, _^_}
+use lib.Dec.{eqb, ltb}
+use lib.ListN.{set}
+use Rattle.access.specs.Limits.{maxLayers}
 use Rattle.access.specs.declared.errno.Reply.{Reply}
-use Rattle.access.specs.declared.errno.Reply.the-variants.{Done, Refused}
+use Rattle.access.specs.declared.errno.Reply.the-variants.{Done, Refused, Denied}
 use Rattle.tree.specs.declared.Replaced.{Replaced}
 use Rattle.tree.specs.declared.Replaced.the-variants.{None, Entry}
 
@@ -15,6 +18,30 @@ codeOf e = cond (eqb e 0) 0 (2 ^ 64 - e)
 unfoldable pub number : Reply → ℕ
 number (Done n) = n
 number (Refused e) = codeOf (e .0)
+number (Denied e l s) = codeOf (e .0)
+
+-- a layer's number + 1, as in the tables; no reply names another layer (theorems, Named)
+unfoldable pub layerCell : ℕ → ℕ
+layerCell l = cond (ltb l maxLayers) (l + 1) 0
+
+-- what a reply says: the error number, 0 for none; the layer that it names, 0 for none; and the set of rights
+pub record Said : Type 0 where
+  pub error : ℕ
+  pub layer : ℕ
+  pub rights : ℕ
+
+abbrev says : ℕ → ℕ → ℕ → Said
+says e l s = record { error = e; layer = l; rights = s }
+
+-- document 02, W8: "Other answers name layer "none" and the empty set"
+unfoldable pub said : Reply → Said
+said (Done n) = says 0 0 0
+said (Refused e) = says (e .0) 0 0
+said (Denied e l s) = says (e .0) (layerCell l) (s .0)
+
+-- a report: the layer and the rights, as many of them as it has cells
+unfoldable pub reported : List ℕ → Reply → List ℕ
+reported cells r = set (set cells 0 (said r .layer)) 1 (said r .rights)
 
 -- the entry that a rename replaces, if `replaces` is not 0
 unfoldable pub replacedBy : ℕ → ℕ → Replaced

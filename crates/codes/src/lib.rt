@@ -1,10 +1,11 @@
 // How numbers stand for what the calls take and answer.
 use access::errno::Reply;
+use access::limits::MAX_LAYERS;
 use cells::write;
 use tree::Replaced;
 ghost use mathlib.Core.Path.{_≡_};
 ghost use lib.ListN.{set};
-ghost use Rattle.codes.specs.Codes.{codeOf, number, replacedBy};
+ghost use Rattle.codes.specs.Codes.{codeOf, number, layerCell, said, reported, replacedBy};
 
 // An error number as C reads it in a signed number; no error is 0.
 pub fn code_of(e: u64) -> u64
@@ -23,6 +24,37 @@ pub fn number(reply: Reply) -> u64
     match reply {
         Reply::Done(n) => n,
         Reply::Refused(e) => code_of(e.0),
+        Reply::Denied(e, _, _) => code_of(e.0),
+    }
+}
+
+fn layer_cell(l: u64) -> u64
+    ensures { λ r. ⌜ r ≡ layerCell l ⌝ }
+{
+    if l < MAX_LAYERS as u64 {
+        return l + 1;
+    }
+    0
+}
+
+// The layer that a reply names, as the tables have it: its number + 1, or 0 for none.
+fn named_layer(reply: Reply) -> u64
+    ensures { λ r. ⌜ r ≡ said reply .layer ⌝ }
+{
+    match reply {
+        Reply::Done(_) => 0,
+        Reply::Refused(_) => 0,
+        Reply::Denied(_, l, _) => layer_cell(l),
+    }
+}
+
+fn denied_rights(reply: Reply) -> u64
+    ensures { λ r. ⌜ r ≡ said reply .rights ⌝ }
+{
+    match reply {
+        Reply::Done(_) => 0,
+        Reply::Refused(_) => 0,
+        Reply::Denied(_, _, rights) => rights.0,
     }
 }
 
@@ -43,4 +75,11 @@ pub fn report(cells: &mut [u64], a: u64, b: u64)
 {
     write(cells, 0, a);
     write(cells, 1, b);
+}
+
+// The report of a call with a verdict: the layer and the rights.
+pub fn report_denial(cells: &mut [u64], reply: Reply)
+    ensures { λ r. ⌜ now (cells .exit) ≡ reported (now (cells .entry)) reply ⌝ }
+{
+    report(cells, named_layer(reply), denied_rights(reply));
 }

@@ -17,6 +17,8 @@ pub fn answer(reply: Reply) {
             line(b" E");
             io::print_decimal(STDOUT_FILENO, e.0);
         }
+        // No verdict is asked for here.
+        Reply::Denied(_, _, _) => line(b" denied"),
     }
 }
 

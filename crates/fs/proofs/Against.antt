@@ -4,7 +4,7 @@ use mathlib.Core.Bool.{Bool, true, false, not, _&&_, false≢true}
 use mathlib.Core.List.{List}
 use Prim.Native.Nat.{ℕ}
 use lib.Dec.{eqb}
-use borrow.Author.Tests.{eqb-true, ne-eqb}
+use borrow.Author.Tests.{eqb-true}
 use Rattle.laws.proofs.Bools.{split, and-l, or-left, or-right}
 use Rattle.access.specs.Rights.{has, join, meet, without, REFER}
 use Rattle.access.proofs.Laws.{has-join, has-meet, has-without, has-none, ext-has}
@@ -14,8 +14,9 @@ use Rattle.judge.specs.Rules.{rightsOn}
 use Rattle.judge.specs.Judge.{denied, missing, handled, granted}
 use Rattle.judge.proofs.Laws.{has-missing, has-denied}
 use Rattle.fs.specs.declared.verdict.Move.{Move}
-use Rattle.fs.specs.Move.{deniedNeeds, deniedRefer, uncontained, escaping, crossing}
-use Rattle.fs.specs.Against.{compared, atSource, atTarget, needsAgainst, crossingAgainst}
+use Rattle.fs.specs.Move.{deniedNeeds, deniedRefer, uncontained, escaping}
+use Rattle.fs.specs.Against.{compared, atSource, atTarget, needsAgainst, referAgainst, escapingAgainst, crossedAgainst}
+use Rattle.fs.specs.Blame.{crossed}
 
 -- ---- of a larger set, the part
 module _ (es : List ℕ) (L : Layer) (e : ℕ) where
@@ -101,8 +102,8 @@ module _ (es : List ℕ) (L : Layer) (m : Move) where
       (missing-part es L (m .source) (atSource m) (without (m .leave .0) REFER) (λ i h. join-l (m .leave .0) (compared m) i (less (m .leave .0) REFER i h)))
       (missing-part es L (m .target) (atTarget m) (without (m .enter .0) REFER) (λ i h. join-l (m .enter .0) (compared m) i (less (m .enter .0) REFER i h)))
 
-  refer-against : join (meet d1 (meet (m .leave .0) REFER)) (meet d2 (meet (m .enter .0) REFER)) ≡ deniedRefer es L m
-  unfolding deniedRefer
+  refer-against : referAgainst m d1 d2 ≡ deniedRefer es L m
+  unfolding referAgainst deniedRefer
   refer-against =
       ap₂ join
       (missing-part es L (m .source) (atSource m) (meet (m .leave .0) REFER) (λ i h. join-l (m .leave .0) (compared m) i (both-l (m .leave .0) REFER i h)))
@@ -119,41 +120,36 @@ module _ (es : List ℕ) (L : Layer) (m : Move) where
       ∙ ap (λ (x : ℕ). without (without x own) (missing es L p2 n2)) (missing-part es L p1 n1 rights a)
       ∙ without-part es L p2 n2 held (λ i h. b i (and-l (has rights i) _ (sym (has-missing es L p1 rights i) ∙ less (missing es L p1 rights) own i h)))
 
-  pub crossing-against : crossingAgainst m d1 d2 (rightsOn (L .rules) pathRule (m .object)) (rightsOn (L .rules) pathRule (m .other)) ≡ crossing es L m
-  unfolding crossingAgainst crossing escaping
-  crossing-against = split (eqb (m .source) (m .target)) (λ q. rw q refl)
-      (λ q.
-      rw q
-      (ap₂ join refer-against
-      (ap₂ join
-      (one-way (m .source) (m .target) (m .object) (m .rights .0) (atSource m) (atTarget m) (λ i h. join-r (m .leave .0) (compared m) i (there q i h)) (λ i h. join-r (m .enter .0) (compared m) i (there q i h)))
-      (one-way (m .target) (m .source) (m .other) (m .back .0) (atTarget m) (atSource m) (λ i h. join-r (m .enter .0) (compared m) i (back q i h)) (λ i h. join-r (m .leave .0) (compared m) i (back q i h))))))
+  escaping-against : eqb (m .source) (m .target) ≡ false
+      → escapingAgainst m d1 d2 (rightsOn (L .rules) pathRule (m .object)) (rightsOn (L .rules) pathRule (m .other)) ≡ escaping es L m
+  unfolding escapingAgainst escaping
+  escaping-against q =
+      ap₂ join
+      (one-way (m .source) (m .target) (m .object) (m .rights .0) (atSource m) (atTarget m) (λ i h. join-r (m .leave .0) (compared m) i (there i h)) (λ i h. join-r (m .enter .0) (compared m) i (there i h)))
+      (one-way (m .target) (m .source) (m .other) (m .back .0) (atTarget m) (atSource m) (λ i h. join-r (m .enter .0) (compared m) i (back i h)) (λ i h. join-r (m .leave .0) (compared m) i (back i h)))
     where
-      there : eqb (m .source) (m .target) ≡ false → (i : ℕ) → has (m .rights .0) i ≡ true → has (compared m) i ≡ true
-      there q i h = ap (λ (x : ℕ). has x i) (apart m q) ∙ join-l (m .rights .0) (m .back .0) i h
+      there : (i : ℕ) → has (m .rights .0) i ≡ true → has (compared m) i ≡ true
+      there i h = ap (λ (x : ℕ). has x i) (apart m q) ∙ join-l (m .rights .0) (m .back .0) i h
 
-      back : eqb (m .source) (m .target) ≡ false → (i : ℕ) → has (m .back .0) i ≡ true → has (compared m) i ≡ true
-      back q i h = ap (λ (x : ℕ). has x i) (apart m q) ∙ join-r (m .rights .0) (m .back .0) i h
+      back : (i : ℕ) → has (m .back .0) i ≡ true → has (compared m) i ≡ true
+      back i h = ap (λ (x : ℕ). has x i) (apart m q) ∙ join-r (m .rights .0) (m .back .0) i h
 
--- how code comes to what is held against a crossing
-pub crossing-by : (m : Move) (d1 d2 own other : ℕ) → (m .source ≡ m .target → ⊥) → {l a e b x h t y k s p q r : ℕ}
-    → l ≡ meet (m .leave .0) REFER
-    → a ≡ meet d1 l
-    → e ≡ meet (m .enter .0) REFER
-    → b ≡ meet d2 e
+  pub crossed-against : crossedAgainst m d1 d2 (rightsOn (L .rules) pathRule (m .object)) (rightsOn (L .rules) pathRule (m .other)) ≡ crossed es L m
+  unfolding crossedAgainst crossed
+  crossed-against = split (eqb (m .source) (m .target)) (λ q. rw q refl) (λ q. rw (q, refer-against, escaping-against q) refl)
+
+-- how code comes to the rights that fail containment
+pub escaping-by : (m : Move) (d1 d2 own other : ℕ) {x h t y k s r : ℕ}
     → x ≡ meet d1 (m .rights .0)
     → h ≡ without x d2
     → t ≡ without h own
     → y ≡ meet d2 (m .back .0)
     → k ≡ without y d1
     → s ≡ without k other
-    → p ≡ join a b
-    → q ≡ join t s
-    → r ≡ join p q
-    → r ≡ crossingAgainst m d1 d2 own other
-unfolding crossingAgainst
-crossing-by m d1 d2 own other d a1 a2 a3 a4 a5 a6 a7 a8 a9 a10 a11 a12 a13 =
-    rw (ne-eqb (m .source) (m .target) d, a13, a12, a11, a10, a9, a8, a7, a6, a5, a4, a3, a2, a1) refl
+    → r ≡ join t s
+    → r ≡ escapingAgainst m d1 d2 own other
+unfolding escapingAgainst
+escaping-by m d1 d2 own other a1 a2 a3 a4 a5 a6 a7 = rw (a7, a6, a5, a4, a3, a2, a1) refl
 
 -- how code comes to both
 module _ (es : List ℕ) (L : Layer) (m : Move) {w n1 d1 n2 d2 : ℕ}
@@ -165,5 +161,5 @@ module _ (es : List ℕ) (L : Layer) (m : Move) {w n1 d1 n2 d2 : ℕ}
   pub needs-by : {r : ℕ} → r ≡ needsAgainst m d1 d2 → r ≡ deniedNeeds es L m
   needs-by h = h ∙ rw (e, d, c, b, a) (needs-against es L m)
 
-  pub crossing-is : {r : ℕ} → r ≡ crossingAgainst m d1 d2 (rightsOn (L .rules) pathRule (m .object)) (rightsOn (L .rules) pathRule (m .other)) → r ≡ crossing es L m
-  crossing-is h = h ∙ rw (e, d, c, b, a) (crossing-against es L m)
+  pub crossed-is : {r : ℕ} → r ≡ crossedAgainst m d1 d2 (rightsOn (L .rules) pathRule (m .object)) (rightsOn (L .rules) pathRule (m .other)) → r ≡ crossed es L m
+  crossed-is h = h ∙ rw (e, d, c, b, a) (crossed-against es L m)

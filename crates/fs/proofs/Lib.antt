@@ -1,2 +1,3 @@
 -- The laws of moves.
 pub mod Against
+pub mod Crossed

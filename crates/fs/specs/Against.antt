@@ -20,9 +20,13 @@ atTarget m = join (m .enter .0) (compared m)
 unfoldable pub needsAgainst : Move → ℕ → ℕ → ℕ
 needsAgainst m d1 d2 = join (meet d1 (without (m .leave .0) REFER)) (meet d2 (without (m .enter .0) REFER))
 
-unfoldable pub crossingAgainst : Move → ℕ → ℕ → ℕ → ℕ → ℕ
-crossingAgainst m d1 d2 own other =
-    cond (eqb (m .source) (m .target)) 0
-    (join
-    (join (meet d1 (meet (m .leave .0) REFER)) (meet d2 (meet (m .enter .0) REFER)))
-    (join (without (without (meet d1 (m .rights .0)) d2) own) (without (without (meet d2 (m .back .0)) d1) other)))
+unfoldable pub referAgainst : Move → ℕ → ℕ → ℕ
+referAgainst m d1 d2 = join (meet d1 (meet (m .leave .0) REFER)) (meet d2 (meet (m .enter .0) REFER))
+
+unfoldable pub escapingAgainst : Move → ℕ → ℕ → ℕ → ℕ → ℕ
+escapingAgainst m d1 d2 own other =
+    join (without (without (meet d1 (m .rights .0)) d2) own) (without (without (meet d2 (m .back .0)) d1) other)
+
+unfoldable pub crossedAgainst : Move → ℕ → ℕ → ℕ → ℕ → ℕ
+crossedAgainst m d1 d2 own other =
+    cond (eqb (m .source) (m .target)) 0 (cond (eqb (referAgainst m d1 d2) 0) (escapingAgainst m d1 d2 own other) REFER)

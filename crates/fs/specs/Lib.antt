@@ -2,3 +2,4 @@
 pub mod Needs
 pub mod Move
 pub mod Against
+pub mod Blame

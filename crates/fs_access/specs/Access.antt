@@ -10,6 +10,7 @@ use Rattle.access.specs.declared.errno.Reply.the-variants.{Done}
 use Rattle.tables.specs.Tables.{Tables, live, pastFileSet, threadLive}
 use Rattle.tables.specs.Outcome.{Outcome, outcome}
 use Rattle.judge.specs.Domain.{domain, lacks}
+use Rattle.judge.specs.Blame.{namingEntry}
 use Rattle.sound.specs.Call.{call}
 
 -- "ESRCH; entry not live ENOENT"
@@ -27,4 +28,4 @@ accessChecks T t e m =
     ++ (accessMask (T .entries) e m ++ (lacks (T .entries) (T .layers) (T .pool) (domain (T .layers) (T .threads) t) e m ⇒ EACCES ∷ []))
 
 unfoldable pub accessCall : Tables → ℕ → ℕ → ℕ → Outcome
-accessCall T t e m = call T (accessChecks T t e m) (outcome (Done 0) T)
+accessCall T t e m = namingEntry T t e m (call T (accessChecks T t e m) (outcome (Done 0) T))

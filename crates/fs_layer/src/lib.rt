@@ -1,4 +1,4 @@
-// What one layer holds against a move: the needs that it denies, and REFER and the rights that are not contained.
+// What one layer holds against a move: the needs that it denies, and REFER or the rights that are not contained.
 use access::rights::Rights;
 use fs::verdict::Move;
 use judge::climb::layer_missing;
@@ -10,13 +10,14 @@ ghost use Rattle.access.specs.Rights.{without};
 ghost use Rattle.tables.specs.Tables.{pathRule};
 ghost use Rattle.tables.specs.Layers.{layerAt};
 ghost use Rattle.judge.specs.Rules.{rightsOn};
-ghost use Rattle.fs.specs.Move.{deniedNeeds, crossing};
-ghost use Rattle.fs.specs.Against.{compared, needsAgainst, crossingAgainst};
+ghost use Rattle.fs.specs.Move.{deniedNeeds};
+ghost use Rattle.fs.specs.Blame.{crossed};
+ghost use Rattle.fs.specs.Against.{compared, needsAgainst, referAgainst, escapingAgainst, crossedAgainst};
 
 // The sets that a layer holds against a question: what it denies, and what it holds against a move between two directories.
 pub struct Against {
     pub denied: Rights,
-    pub crossing: Rights,
+    pub crossed: Rights,
 }
 
 // The rights that containment compares.
@@ -47,30 +48,46 @@ fn left_by_rule(layers: &[u64], pool: &[u64], l: u64, object: u64, held: Rights)
     held.without(rights_on(layer_rules(layers, pool, l), PATH_RULE, object))
 }
 
-// REFER where it is needed and denied, and the rights that fail containment.
-fn crossing_against(layers: &[u64], pool: &[u64], l: u64, m: Move, d1: Rights, d2: Rights) -> Rights
-    ensures { λ r. ⌜ r .0 ≡ crossingAgainst m (d1 .0) (d2 .0) (rightsOn (layerAt (now (layers .entry)) (now (pool .entry)) l .rules) pathRule (m .object)) (rightsOn (layerAt (now (layers .entry)) (now (pool .entry)) l .rules) pathRule (m .other)) ⌝ }
+// REFER, where it is needed and denied.
+fn refer_against(m: Move, d1: Rights, d2: Rights) -> Rights
+    ensures { λ r. ⌜ r .0 ≡ referAgainst m (d1 .0) (d2 .0) ⌝ }
+{
+    let a = d1.meet(m.leave.meet(Rights::REFER));
+    a.join(d2.meet(m.enter.meet(Rights::REFER)))
+}
+
+// The rights that fail containment, of both moves.
+fn escaping_against(layers: &[u64], pool: &[u64], l: u64, m: Move, d1: Rights, d2: Rights) -> Rights
+    ensures { λ r. ⌜ r .0 ≡ escapingAgainst m (d1 .0) (d2 .0) (rightsOn (layerAt (now (layers .entry)) (now (pool .entry)) l .rules) pathRule (m .object)) (rightsOn (layerAt (now (layers .entry)) (now (pool .entry)) l .rules) pathRule (m .other)) ⌝ }
+{
+    let there = left_by_rule(layers, pool, l, m.object, d1.meet(m.rights).without(d2));
+    let back = left_by_rule(layers, pool, l, m.other, d2.meet(m.back).without(d1));
+    there.join(back)
+}
+
+// REFER if the layer denies it, and otherwise the rights that fail containment.
+fn crossed_against(layers: &[u64], pool: &[u64], l: u64, m: Move, d1: Rights, d2: Rights) -> Rights
+    ensures { λ r. ⌜ r .0 ≡ crossedAgainst m (d1 .0) (d2 .0) (rightsOn (layerAt (now (layers .entry)) (now (pool .entry)) l .rules) pathRule (m .object)) (rightsOn (layerAt (now (layers .entry)) (now (pool .entry)) l .rules) pathRule (m .other)) ⌝ }
 {
     if m.source == m.target {
         return Rights::NONE;
     }
-    let a = d1.meet(m.leave.meet(Rights::REFER));
-    let b = d2.meet(m.enter.meet(Rights::REFER));
-    let there = left_by_rule(layers, pool, l, m.object, d1.meet(m.rights).without(d2));
-    let back = left_by_rule(layers, pool, l, m.other, d2.meet(m.back).without(d1));
-    a.join(b).join(there.join(back))
+    if !refer_against(m, d1, d2).is_empty() {
+        return Rights::REFER;
+    }
+    escaping_against(layers, pool, l, m, d1, d2)
 }
 
 // What the layer holds against a move, by one climb from each directory.
 pub fn layer_against(entries: &[u64], layers: &[u64], pool: &[u64], l: u64, m: Move) -> Against
     ensures needs { λ r. ⌜ r .denied .0 ≡ deniedNeeds (now (entries .entry)) (layerAt (now (layers .entry)) (now (pool .entry)) l) m ⌝ }
-    ensures crossing { λ r. ⌜ r .crossing .0 ≡ crossing (now (entries .entry)) (layerAt (now (layers .entry)) (now (pool .entry)) l) m ⌝ }
+    ensures crossed { λ r. ⌜ r .crossed .0 ≡ crossed (now (entries .entry)) (layerAt (now (layers .entry)) (now (pool .entry)) l) m ⌝ }
 {
     let wide = compared_rights(m);
     let d1 = layer_missing(entries, layers, pool, l, m.source, m.leave.join(wide));
     let d2 = layer_missing(entries, layers, pool, l, m.target, m.enter.join(wide));
     Against {
         denied: needs_against(m, d1, d2),
-        crossing: crossing_against(layers, pool, l, m, d1, d2),
+        crossed: crossed_against(layers, pool, l, m, d1, d2),
     }
 }

@@ -2,3 +2,4 @@
 pub mod Rules
 pub mod Judge
 pub mod Domain
+pub mod Blame

@@ -3,15 +3,19 @@ use access::limits::MAX_ENTRIES;
 use access::rights::Rights;
 use tables::rows::PATH_RULE;
 use tree::Replaced;
+use verdict::Question;
+use verdict::thread_denial;
 ghost use mathlib.Core.Path.{_≡_};
 ghost use mathlib.Core.Bool.{cond};
 ghost use Rattle.access.specs.Rights.{without};
-ghost use Rattle.laws.specs.Refusals.{first};
-ghost use Rattle.access.specs.Limits.{maxEntries, maxDomain};
+ghost use mathlib.Core.List.{[], _∷_};
+ghost use Rattle.laws.specs.Refusals.{_⇒_, first};
+ghost use Rattle.access.specs.Errno.{EACCES};
+ghost use Rattle.access.specs.Limits.{maxEntries};
 ghost use Rattle.tables.specs.Tables.{before, pathRule};
 ghost use Rattle.judge.specs.Rules.{rightsOn};
 ghost use Rattle.judge.specs.Judge.{grants};
-ghost use Rattle.judge.specs.Domain.{chain, domain, lacks};
+ghost use Rattle.judge.specs.Domain.{domain, lacks};
 ghost use Rattle.fs.specs.Move.{verdict};
 ghost use Rattle.tree.specs.declared.Replaced.the-variants.{None};
 ghost use Rattle.tree.specs.Moves.{renameMove};
@@ -32,21 +36,19 @@ pub extern "C" fn skein_measure_missing(entries: &[u64], rules: &[u64], e: u64, 
 }
 
 #[no_mangle]
-pub extern "C" fn skein_measure_lacks(
+pub extern "C" fn skein_measure_access(
     entries: &[u64],
     layers: &[u64],
     pool: &[u64],
-    y: u64,
+    threads: &[u64],
+    t: u64,
     e: u64,
     asked: u64,
 ) -> u64
-    ensures { λ r. ⌜ r ≡ cond (lacks (now (entries .entry)) (now (layers .entry)) (now (pool .entry)) (chain (now (layers .entry)) maxDomain y) e asked) 1 0 ⌝ }
+    ensures { λ r. ⌜ r ≡ first (lacks (now (entries .entry)) (now (layers .entry)) (now (pool .entry)) (domain (now (layers .entry)) (now (threads .entry)) t) e asked ⇒ EACCES ∷ []) ⌝ }
 {
-    if verdict::domain_lacks(entries, layers, pool, y, e, Rights(asked)) {
-        1
-    } else {
-        0
-    }
+    let q = Question::Entry(e, Rights(asked));
+    thread_denial(entries, layers, pool, threads, t, q).refusal()
 }
 
 #[no_mangle]
@@ -61,8 +63,8 @@ pub extern "C" fn skein_measure_rename(
 ) -> u64
     ensures { λ r. ⌜ r ≡ first (verdict (now (entries .entry)) (now (layers .entry)) (now (pool .entry)) (domain (now (layers .entry)) (now (threads .entry)) t) (renameMove (now (entries .entry)) s d None)) ⌝ }
 {
-    let m = tree_moves::rename_move(entries, s, d, Replaced::None);
-    tree_moves::thread_verdict(entries, layers, pool, threads, t, m)
+    let q = Question::Move(tree_moves::rename_move(entries, s, d, Replaced::None));
+    thread_denial(entries, layers, pool, threads, t, q).refusal()
 }
 
 #[no_mangle]

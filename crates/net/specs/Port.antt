@@ -11,6 +11,7 @@ use Rattle.access.specs.declared.errno.Reply.the-variants.{Done}
 use Rattle.tables.specs.Tables.{Tables, threadLive}
 use Rattle.tables.specs.Outcome.{Outcome, outcome}
 use Rattle.judge.specs.Domain.{domain, portLacks}
+use Rattle.judge.specs.Blame.{namingPort}
 use Rattle.sound.specs.Call.{call}
 
 -- "ESRCH; 0 to 65,535, else EINVAL; empty or unknown mask EINVAL": a bit is unknown only if above 1, whatever the level
@@ -24,4 +25,4 @@ portChecks T t port m =
     portForm (T .threads) t port m ++ (portLacks (T .layers) (T .pool) (domain (T .layers) (T .threads) t) port m ⇒ EACCES ∷ [])
 
 unfoldable pub portCall : Tables → ℕ → ℕ → ℕ → Outcome
-portCall T t port m = call T (portChecks T t port m) (outcome (Done 0) T)
+portCall T t port m = namingPort T t port m (call T (portChecks T t port m) (outcome (Done 0) T))

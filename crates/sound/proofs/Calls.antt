@@ -1,5 +1,5 @@
 -- How code comes to the outcome of a call, and what an outcome tells, for any call. Assumes nothing.
-use mathlib.Core.Path.{_≡_, refl}
+use mathlib.Core.Path.{_≡_, refl, ap, _∙_}
 use mathlib.Core.Bool.{Bool, true, false, not}
 use mathlib.Core.List.{List, _∷_}
 use Prim.Native.Nat.{ℕ}
@@ -10,7 +10,7 @@ use Rattle.laws.specs.Refusals.{Check, _⇒_, first}
 use Rattle.laws.proofs.Refusals.{first-is, hit-not}
 use Rattle.access.specs.Errno.{EIO}
 use Rattle.tables.specs.Tables.{Tables}
-use Rattle.tables.specs.Outcome.{Outcome, refused, answer}
+use Rattle.tables.specs.Outcome.{Outcome, refused, answer, named, naming}
 use Rattle.tables.proofs.Outcomes.{answer-refused, answer-done}
 use Rattle.sound.specs.Sound.{sound}
 use Rattle.sound.specs.Call.{call}
@@ -42,3 +42,12 @@ module _ (T : Tables) (cs : List Check) (done : Outcome) where
   pub kept-call : (first cs ≡ 0 → sound (done .left) ≡ true) → sound T ≡ true → sound (call T cs done .left) ≡ true
   unfolding call answer first
   kept-call f h = split (eqb (first cs) 0) (λ q. rw (h, q) (f (eqb-true (first cs) 0 q))) (λ q. rw (h, q) h)
+
+-- a call with a verdict, whose refusals name a layer
+module _ (a b : ℕ → ℕ) (D : List ℕ) (T : Tables) (cs : List Check) (done : Outcome) where
+  pub named-unsound : {q : Bool} → q ≡ sound T → not q ≡ true → refused EIO T ≡ naming a b D (call T cs done)
+  unfolding named
+  named-unsound h p = ap (λ (o : Outcome). naming a b D o) (call-unsound T cs done h p)
+
+  pub named-passes : {q : Bool} {o : Outcome} → q ≡ sound T → not q ≡ false → o ≡ naming a b D (answer T cs done) → o ≡ naming a b D (call T cs done)
+  named-passes h p k = k ∙ ap (λ (o : Outcome). naming a b D o) (call-passes T cs done h p refl)

@@ -2,6 +2,7 @@
 use mathlib.Core.Path.{_≡_, refl, sym, ap, fun-ext, _∙_}
 use mathlib.Core.Bool.{true}
 use mathlib.Core.List.{List, [], _∷_, map}
+use Prim.Native.Nat.{ℕ}
 use native.Mathlib.Omega.{arith}
 use Rattle.laws.specs.Tests.{anyBelow, firstFrom, firstBelow, any, allOf}
 use Rattle.laws.specs.Refusals.{Check, first}
@@ -13,7 +14,7 @@ use Rattle.access.specs.declared.errno.Reply.{Reply}
 use Rattle.access.specs.declared.errno.Reply.the-variants.{Done}
 use Rattle.tables.specs.Tables.{Tables, object, live, isDir, pastFileSet, pathRule, threadLive}
 use Rattle.tables.specs.Layers.{handlesAny, rulesetAt, isOpen, layerAt, layerInUse}
-use Rattle.tables.specs.Outcome.{Outcome, outcome, answer}
+use Rattle.tables.specs.Outcome.{Outcome, outcome, answer, blame, named, naming}
 use Rattle.tables.specs.Fresh.{freshTables}
 use Rattle.sound_rules.specs.Rules.{masksKnown}
 use Rattle.sound.specs.Sound.{sound}
@@ -23,16 +24,18 @@ use Rattle.sound.proofs.Fresh.{fresh-sound}
 use Rattle.judge.specs.Rules.{isRule, rulePlace, rightsOn}
 use Rattle.judge.specs.Judge.{grants, granted, handled, denied, missing}
 use Rattle.judge.specs.Domain.{chain, domain, layerLacks, lacks}
+use Rattle.judge.specs.Blame.{namingEntry}
 use Rattle.ruleset.specs.Attribute.{number, knownSize, strayByte, stray}
 use Rattle.ruleset.specs.Create.{freeRuleset, createForm, createMasks, createChecks, opened, createDone, created}
 use Rattle.rule.specs.Rule.{addForm, isFull, sweeping, pathForm, addPathChecks, appended, added, addDone, pathAdded}
 use Rattle.domain_restrict.specs.Restrict.{unmarked, restrictForm, isDeep, noRoom, restrictRoom, restrictChecks, freeLayer, layerRow, counted, restricted, restrictDone, restrictCall}
 use Rattle.domain.specs.Threads.{markChecks, markDone, privsSet}
 use Rattle.fs_access.specs.Access.{accessNames, accessMask, accessChecks, accessCall}
-use Rattle.fs.specs.Needs.{sourceNeeds, targetNeeds}
+use Rattle.fs.specs.Needs.{makeOf, sourceNeeds, targetNeeds}
 use Rattle.fs.specs.Move.{entryRights, deniedNeeds, deniedRefer, uncontained, escaping, crossing, layerDenies, layerCrosses, verdict}
+use Rattle.fs.specs.Blame.{crossed, namingMove}
 use Rattle.tree.specs.Entries.{freeEntry, unknownKind, above, replacing, putEntry, putParent, withEntries}
-use Rattle.tree.specs.Moves.{needsFrom, needsTo, moveOf}
+use Rattle.tree.specs.Moves.{needsFrom, needsTo, moveOf, linkMove, renameMove}
 use Rattle.tree.specs.Create.{createShape, createVerdict, createLater, treeCreateChecks, treeCreated, treeCreate}
 use Rattle.tree.specs.Link.{linkShape, linkVerdict, linkLater, linkChecks, linked, treeLink}
 use Rattle.tree.specs.Rename.{renameNames, renameShape, renameVerdict, renameLater, renameChecks, dropped, moved, treeRename}
@@ -46,10 +49,13 @@ played T (create-ruleset bs flags) = answer T (createChecks T bs flags) (createD
 played T (add-path-rule r e rights flags) = answer T (addPathChecks T r e rights flags) (addDone T r pathRule (object (T .entries) e) rights)
 played T (restrict t r flags) = answer T (restrictChecks T t r flags) (restrictDone T t r)
 played T (set-no-new-privs t) = answer T (markChecks T t) (markDone T t 2 1)
-played T (access t e m) = answer T (accessChecks T t e m) (outcome (Done 0) T)
-played T (create t d k) = answer T (treeCreateChecks T t d k) (outcome (Done (freeEntry (T .entries))) (treeCreated T d k))
-played T (link t s d) = answer T (linkChecks T t s d) (outcome (Done (freeEntry (T .entries))) (withEntries T (linked (T .entries) s d)))
-played T (rename t s d x) = answer T (renameChecks T t s d x) (outcome (Done 0) (withEntries T (moved (T .entries) s d x)))
+played T (access t e m) = namingEntry T t e m (answer T (accessChecks T t e m) (outcome (Done 0) T))
+played T (create t d k) =
+    namingEntry T t d (makeOf (kindOf k)) (answer T (treeCreateChecks T t d k) (outcome (Done (freeEntry (T .entries))) (treeCreated T d k)))
+played T (link t s d) =
+    namingMove T t (linkMove (T .entries) s d) (answer T (linkChecks T t s d) (outcome (Done (freeEntry (T .entries))) (withEntries T (linked (T .entries) s d))))
+played T (rename t s d x) =
+    namingMove T t (renameMove (T .entries) s d x) (answer T (renameChecks T t s d x) (outcome (Done 0) (withEntries T (moved (T .entries) s d x))))
 played T (close-ruleset r) = outcomeOf T (close-ruleset r)
 played T (add-port-rule r p rights flags) = outcomeOf T (add-port-rule r p rights flags)
 played T (layer-rules l) = outcomeOf T (layer-rules l)
@@ -64,16 +70,19 @@ played T (exchange t s d x) = outcomeOf T (exchange t s d x)
 past : (T : Tables) (cs : List Check) (done : Outcome) → sound T ≡ true → call T cs done ≡ answer T cs done
 past T cs done h = sym (call-passes T cs done (sym h) refl refl)
 
+past-named : (a b : ℕ → ℕ) (D : List ℕ) (T : Tables) (cs : List Check) (done : Outcome) → sound T ≡ true → naming a b D (call T cs done) ≡ naming a b D (answer T cs done)
+past-named a b D T cs done h = ap (λ (o : Outcome). naming a b D o) (past T cs done h)
+
 same : (T : Tables) (c : Call) → sound T ≡ true → outcomeOf T c ≡ played T c
 unfolding played outcomeOf created pathAdded restrictCall privsSet accessCall treeCreate treeLink treeRename
 same T (create-ruleset bs flags) h = past T _ _ h
 same T (add-path-rule r e rights flags) h = past T _ _ h
 same T (restrict t r flags) h = past T _ _ h
 same T (set-no-new-privs t) h = past T _ _ h
-same T (access t e m) h = past T _ _ h
-same T (create t d k) h = past T _ _ h
-same T (link t s d) h = past T _ _ h
-same T (rename t s d x) h = past T _ _ h
+same T (access t e m) h = past-named _ _ _ T _ _ h
+same T (create t d k) h = past-named _ _ _ T _ _ h
+same T (link t s d) h = past-named _ _ _ T _ _ h
+same T (rename t s d x) h = past-named _ _ _ T _ _ h
 same T (close-ruleset r) h = refl
 same T (add-port-rule r p rights flags) h = refl
 same T (layer-rules l) h = refl
@@ -114,7 +123,7 @@ unfolding anyBelow allOf firstFrom firstBelow any first copied
     addForm isFull sweeping pathForm addPathChecks appended added addDone
     unmarked restrictForm isDeep noRoom restrictRoom restrictChecks freeLayer layerRow counted restricted restrictDone markChecks markDone
     accessNames accessMask accessChecks sourceNeeds targetNeeds
-    entryRights deniedNeeds deniedRefer uncontained escaping crossing layerDenies layerCrosses verdict
+    entryRights deniedNeeds deniedRefer uncontained escaping crossing crossed layerDenies layerCrosses verdict blame named
     freeEntry unknownKind above replacing putEntry putParent needsFrom needsTo moveOf
     createShape createVerdict createLater treeCreateChecks treeCreated
     linkShape linkVerdict linkLater linkChecks linked

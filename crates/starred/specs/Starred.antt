@@ -2,11 +2,11 @@
 use mathlib.Core.Path.{_≡_}
 use mathlib.Core.List.{List, [], _∷_, _++_, map}
 use Prim.Native.Nat.{ℕ}
-use Rattle.access.specs.Rights.{EXECUTE, WRITE_FILE, READ_FILE}
+use Rattle.access.specs.Rights.{EXECUTE, WRITE_FILE, READ_FILE, REMOVE_FILE, MAKE_REG, REFER}
 use Rattle.access.specs.Errno.{EACCES, EXDEV}
 use Rattle.access.specs.Limits.{maxLevel}
 use Rattle.access.specs.declared.errno.Reply.{Reply}
-use Rattle.access.specs.declared.errno.Reply.the-variants.{Done, Refused}
+use Rattle.access.specs.declared.errno.Reply.the-variants.{Done, Denied}
 use Rattle.tables.specs.Fresh.{freshTables}
 use Rattle.tree.specs.declared.Replaced.the-variants.{None}
 use Rattle.theorems.specs.Calls.{Call, create-ruleset, add-path-rule, restrict, set-no-new-privs, access, create, link, rename, reply, afterAll}
@@ -20,8 +20,9 @@ pub record Case : Type 0 where
 abbrev pub case : List Call → Call → Reply → Case
 case cs c r = record { calls = cs; last = c; answer = r }
 
-abbrev pub refused : ℕ → Reply
-refused e = Refused (record { 0 = e })
+-- a refusal with its layer and what that denies (document 02, W8)
+abbrev pub denied : ℕ → ℕ → ℕ → Reply
+denied e l s = Denied (record { 0 = e }) l (record { 0 = s })
 
 -- "1 /cal and 2 /import are directories, 3 /cal/table and 4 /import/feed regular"; thread 0 may restrict itself
 abbrev pub start : List Call
@@ -54,18 +55,18 @@ B2 = B ++ (create-ruleset (2 ∷ 0 ∷ 0 ∷ 0 ∷ 0 ∷ 0 ∷ 0 ∷ 0 ∷ []) 0
 abbrev pub cases : List Case
 cases =
     case A (access 0 3 READ_FILE) (Done 0)
-    ∷ case A (access 0 3 WRITE_FILE) (refused EACCES)
+    ∷ case A (access 0 3 WRITE_FILE) (denied EACCES 0 WRITE_FILE)
     ∷ case A (access 0 4 WRITE_FILE) (Done 0)
     ∷ case A (access 0 3 EXECUTE) (Done 0)
-    ∷ case A (rename 0 4 1 None) (refused EACCES)
+    ∷ case A (rename 0 4 1 None) (denied EACCES 0 MAKE_REG)
     ∷ case B (rename 0 4 1 None) (Done 0)
-    ∷ case (B ++ (rename 0 4 1 None ∷ [])) (access 0 4 WRITE_FILE) (refused EACCES)
-    ∷ case B (rename 0 3 2 None) (refused EACCES)
-    ∷ case C (rename 0 3 2 None) (refused EXDEV)
+    ∷ case (B ++ (rename 0 4 1 None ∷ [])) (access 0 4 WRITE_FILE) (denied EACCES 0 WRITE_FILE)
+    ∷ case B (rename 0 3 2 None) (denied EACCES 0 REMOVE_FILE)
+    ∷ case C (rename 0 3 2 None) (denied EXDEV 0 WRITE_FILE)
     ∷ case C3 (rename 0 3 2 None) (Done 0)
     ∷ case (B ++ (link 0 4 1 ∷ [])) (access 0 4 WRITE_FILE) (Done 0)
     ∷ case B2 (access 0 4 READ_FILE) (Done 0)
-    ∷ case B2 (rename 0 4 1 None) (refused EXDEV)
+    ∷ case B2 (rename 0 4 1 None) (denied EXDEV 1 REFER)
     ∷ case B2 (rename 0 4 2 None) (Done 0)
     ∷ []
 

@@ -14,23 +14,21 @@ use Rattle.laws.proofs.Bools.{split, either}
 use Rattle.laws.proofs.Refusals.{passed}
 use Rattle.access.specs.Limits.{maxEntries}
 use Rattle.access.specs.Rights.{has}
-use Rattle.access.specs.declared.errno.Reply.the-variants.{Done, Refused}
+use Rattle.access.specs.declared.errno.Reply.the-variants.{Done}
 use Rattle.access.specs.declared.kinds.MaybeKind.the-variants.{None}
 use Rattle.tables.specs.Tables.{Tables, counter, kind, parent, object, live, isDir}
 use Rattle.tables.specs.Layers.{layerAt}
-use Rattle.tables.specs.Outcome.{Outcome, outcome, refused}
 use Rattle.sound.specs.Sound.{sound}
-use Rattle.sound.specs.Call.{call}
 use Rattle.sound.proofs.Facts.{facts}
-use Rattle.sound.proofs.Calls.{call-done, call-refused}
 use Rattle.judge.specs.Judge.{denied, handled}
 use Rattle.fs.specs.Move.{entryRights, layerCrosses, verdict}
 use Rattle.fs.specs.declared.needs.Step.the-variants.{Link}
-use Rattle.tree.specs.Entries.{freeEntry, withEntries}
+use Rattle.tree.specs.Entries.{freeEntry}
 use Rattle.tree.specs.Moves.{linkMove}
 use Rattle.tree.specs.Link.{linkShape, linkVerdict, linkLater, linkChecks, linked, treeLink}
 use Rattle.theorems.specs.Calls.{Call, link, outcomeOf, after, reply, caller, frees, wouldFree, isDone}
 use Rattle.theorems.specs.Claim.{domainOf, ChangesTree}
+use Rattle.theorems.proofs.Links.{link-passes, number, after-link}
 use Rattle.theorems.proofs.Shut.{gives, Shut, shut-here, shut-cons, denied-handled, denied-shut, shut-denied, dir-holds, live-same, still-shut}
 use Rattle.kept_tree.proofs.Written.{parent-put, object-put, live-dir}
 use Rattle.theorems.proofs.Contained.{shut-there}
@@ -78,30 +76,6 @@ denied-kept T c l e i s w a g r h =
 
 -- ---- a new link
 module _ (T : Tables) (u s d n : ℕ) (h : sound T ≡ true) (y : reply T (link u s d) ≡ Done n) where
-  record Made : Type 0 where
-    passes : first (linkChecks T u s d) ≡ 0
-    number : n ≡ freeEntry (T .entries)
-    entries : (after T (link u s d)) .entries ≡ linked (T .entries) s d
-
-  made : Made
-  unfolding outcomeOf treeLink
-  made =
-      let cs = linkChecks T u s d in
-      let done = outcome (Done (freeEntry (T .entries))) (withEntries T (linked (T .entries) s d)) in
-      split (eqb (first cs) 0)
-      (λ q.
-      let z = eqb-true (first cs) 0 q in
-      let o : done ≡ call T cs done = call-done T cs done (sym h) refl refl z in
-      record {
-        passes = z;
-        number = (let e : Done (freeEntry (T .entries)) ≡ Done n = ap (λ (x : Outcome). x .reply) o ∙ y in cc);
-        entries = sym (ap (λ (x : Outcome). x .left .entries) o);
-      })
-      (λ q.
-      let o : refused (first cs) T ≡ call T cs done = call-refused T cs done (sym h) refl refl (eqb-false (first cs) 0 q) in
-      let e : Refused (record { 0 = first cs }) ≡ Done n = ap (λ (x : Outcome). x .reply) o ∙ y in
-      absurd (let z : _≡_ {A = ℕ} 0 1 = cc in omega arith))
-
   record Checked : Type 0 where
     source : live (T .entries) s ≡ true
     target : isDir (T .entries) d ≡ true
@@ -112,7 +86,7 @@ module _ (T : Tables) (u s d n : ℕ) (h : sound T ≡ true) (y : reply T (link 
   checked : Checked
   unfolding linkChecks linkShape linkVerdict linkLater verdict
   checked =
-      let p = passed (linkChecks T u s d) (made .passes) in
+      let p = passed (linkChecks T u s d) (link-passes T u s d n y) in
       let k : freeEntry (T .entries) < maxEntries = ltb-true (freeEntry (T .entries)) maxEntries (not-false _ (p .1 .1 .1 .1 .1 .1 .1 .1 .0)) in
       record {
         source = not-false _ (p .1 .0);
@@ -124,11 +98,11 @@ module _ (T : Tables) (u s d n : ℕ) (h : sound T ≡ true) (y : reply T (link 
 
   link-object : object ((after T (link u s d)) .entries) n ≡ object (T .entries) s
   unfolding linked
-  link-object = rw (made .entries, made .number) (object-put (T .entries) (freeEntry (T .entries)) (kind (T .entries) s) d (object (T .entries) s) (checked .room))
+  link-object = rw (after-link T u s d n y, number T u s d n y) (object-put (T .entries) (freeEntry (T .entries)) (kind (T .entries) s) d (object (T .entries) s) (checked .room))
 
   link-parent : parent ((after T (link u s d)) .entries) n ≡ d
   unfolding linked
-  link-parent = rw (made .entries, made .number) (parent-put (T .entries) (freeEntry (T .entries)) (kind (T .entries) s) d (object (T .entries) s) (checked .room))
+  link-parent = rw (after-link T u s d n y, number T u s d n y) (parent-put (T .entries) (freeEntry (T .entries)) (kind (T .entries) s) d (object (T .entries) s) (checked .room))
 
   link-frees : (e : ℕ) → frees T (link u s d) e ≡ false
   unfolding frees wouldFree

@@ -1,5 +1,5 @@
 -- What a thread holds is what its requests are granted. Assumes nothing.
-use mathlib.Core.Path.{_≡_, refl, sym, ap}
+use mathlib.Core.Path.{_≡_, refl, sym, ap, _∙_}
 use mathlib.Core.Bool.{Bool, true, false, not, cond, _&&_}
 use mathlib.Core.List.{List, [], _∷_, _++_}
 use Prim.Native.Nat.{ℕ}
@@ -14,10 +14,10 @@ use Rattle.access.specs.Rights.{has, allFs, fileSet}
 use Rattle.access.proofs.Laws.{within-has}
 use Rattle.access.specs.Errno.{EACCES}
 use Rattle.access.specs.declared.errno.Reply.{Reply}
-use Rattle.access.specs.declared.errno.Reply.the-variants.{Done, Refused}
+use Rattle.access.specs.declared.errno.Reply.the-variants.{Done}
 use Rattle.tables.specs.Tables.{Tables, isDir, pastFileSet, portRule}
 use Rattle.tables.specs.Layers.{Layer, layerAt}
-use Rattle.tables.specs.Outcome.{Outcome, outcome}
+use Rattle.tables.specs.Outcome.{Outcome, outcome, errorOf, named, naming}
 use Rattle.judge.specs.Rules.{rightsOn}
 use Rattle.judge.specs.Judge.{granted, handled}
 use Rattle.judge.specs.Domain.{lacks, portLacks}
@@ -31,30 +31,38 @@ use Rattle.net.specs.Port.{portForm, portChecks, portCall}
 use Rattle.theorems.specs.Calls.{outcomeOf}
 use Rattle.theorems.specs.Claim.{domainOf, holds, portGrants}
 use Rattle.theorems.specs.Granted.{Judged, RightsAnswered}
+use Rattle.theorems.proofs.Naming.{error-named}
 
-abbrev no : Reply
-no = Refused (record { 0 = EACCES })
+-- the reply of a request whose last check is all that can refuse
+pub data Answered (r : Reply) : Bool → Type 0 where
+  denying : errorOf r ≡ EACCES → Answered r true
+  granting : r ≡ Done 0 → Answered r false
 
--- a call whose last check is all that can refuse
-last-check : (T : Tables) (cs : List Check) (b : Bool) → sound T ≡ true → first cs ≡ cond b EACCES 0 → call T cs (outcome (Done 0) T) .reply ≡ cond b no (Done 0)
-last-check T cs true h k = sym (ap (λ (o : Outcome). o .reply) (call-refused T cs (outcome (Done 0) T) (sym h) refl (sym k) (λ z. omega arith)))
-last-check T cs false h k = sym (ap (λ (o : Outcome). o .reply) (call-done T cs (outcome (Done 0) T) (sym h) refl (sym k) refl))
+module _ (a b : ℕ → ℕ) (D : List ℕ) where
+  last-check : (T : Tables) (cs : List Check) (v : Bool) → sound T ≡ true → first cs ≡ cond v EACCES 0 → Answered (naming a b D (call T cs (outcome (Done 0) T)) .reply) v
+  unfolding named
+  last-check T cs true h k =
+      let o = ap (λ (o : Outcome). o .reply) (call-refused T cs (outcome (Done 0) T) (sym h) refl (sym k) (λ z. omega arith)) in
+      denying (error-named a b D (call T cs (outcome (Done 0) T) .reply) ∙ ap errorOf (sym o))
+  last-check T cs false h k =
+      let o = ap (λ (o : Outcome). o .reply) (call-done T cs (outcome (Done 0) T) (sym h) refl (sym k) refl) in
+      granting (ap (named a b D) (sym o))
 
 -- a reply by a test that fails exactly if G
-judged : {r : Reply} {G : Type 0} (b : Bool) → r ≡ cond b no (Done 0) → (G → b ≡ false) → (b ≡ false → G) → Judged r G
-judged true h f g =
+judged : {r : Reply} {G : Type 0} (b : Bool) → Answered r b → (G → b ≡ false) → (b ≡ false → G) → Judged r G
+judged true (denying h) f g =
     record {
       granted = λ x. clash true refl (f x);
-      only = λ z. absurd (let n : _≡_ {A = ℕ} 0 1 = cc in omega arith);
+      only = λ z. absurd (let n : _≡_ {A = ℕ} 0 EACCES = sym (ap errorOf z) ∙ h in omega arith);
       denied = λ n. h;
       lacked = λ z x. clash true refl (f x);
     }
-judged false h f g =
+judged false (granting h) f g =
     record {
       granted = λ x. h;
       only = λ z. g refl;
       denied = λ n. absurd (n (g refl));
-      lacked = λ z. absurd (let n : _≡_ {A = ℕ} 0 1 = cc in omega arith);
+      lacked = λ z. absurd (let n : _≡_ {A = ℕ} 0 EACCES = sym (ap errorOf h) ∙ z in omega arith);
     }
 
 -- ---- layers D, where layer l handles right i if h l i and grants it if g l i; b: one of them denies a right of the mask m
@@ -139,6 +147,6 @@ module _ (T : Tables) (t p m : ℕ) (form : first (portForm (T .threads) t p m) 
 pub rights-answered : RightsAnswered
 unfolding outcomeOf accessCall portCall
 rights-answered = record {
-  access = λ T t e m h a b. judged (lacking T t e m a b) (last-check T (accessChecks T t e m) (lacking T t e m a b) h (access-first T t e m a b)) (access-all T t e m a b) (access-held T t e m a b);
-  ports = λ T t p m h a. judged (lacking-port T t p m a) (last-check T (portChecks T t p m) (lacking-port T t p m a) h (port-first T t p m a)) (port-all T t p m a) (port-held T t p m a);
+  access = λ T t e m h a b. judged (lacking T t e m a b) (last-check _ _ _ T (accessChecks T t e m) (lacking T t e m a b) h (access-first T t e m a b)) (access-all T t e m a b) (access-held T t e m a b);
+  ports = λ T t p m h a. judged (lacking-port T t p m a) (last-check _ _ _ T (portChecks T t p m) (lacking-port T t p m a) h (port-first T t p m a)) (port-all T t p m a) (port-held T t p m a);
 }

@@ -1,5 +1,6 @@
 -- What holds of all calls.
 pub mod Kept
+pub mod Naming
 pub mod Chains
 pub mod Stays
 pub mod Ports
@@ -13,3 +14,4 @@ pub mod Assembly
 pub mod Demand3
 pub mod Granted
 pub mod Ended
+pub mod Named

@@ -21,6 +21,7 @@ use Rattle.tree.specs.Entries.{freeEntry, putEntry, withEntries}
 use Rattle.tree.specs.Link.{linkShape, linkVerdict, linkLater, linkChecks, linked, treeLink}
 use Rattle.kept_tree.proofs.Fill.{free-entry}
 use Rattle.kept_domains.proofs.Rows.{HasRow, has-row, reads}
+use Rattle.theorems.proofs.Naming.{named-done}
 use Rattle.theorems.specs.Calls.{link, outcomeOf, after, reply}
 use Rattle.theorems.specs.Claim.{ChangesTree}
 
@@ -46,25 +47,31 @@ unfolding putEntry
 put-kind es e k p o h = search reads
 
 module _ (T : Tables) (u s d n : ℕ) (yes : reply T (link u s d) ≡ Done n) where
+  -- the layer that it might name apart
+  told : call T (linkChecks T u s d) (linkDone T s d) .reply ≡ Done n
+  unfolding outcomeOf treeLink
+  told = named-done _ _ _ (call T (linkChecks T u s d) (linkDone T s d) .reply) n yes
+
   link-made : Made T (linkChecks T u s d) (linkDone T s d)
-  unfolding outcomeOf treeLink
-  link-made = made T (linkChecks T u s d) (linkDone T s d) n yes
+  link-made = made T (linkChecks T u s d) (linkDone T s d) n told
 
-  number : n ≡ freeEntry (T .entries)
-  unfolding outcomeOf treeLink
-  number = let e : Done (freeEntry (T .entries)) ≡ Done n = sym (ap (λ (o : Outcome). o .reply) (link-made .is-done)) ∙ yes in cc
+  pub link-passes : first (linkChecks T u s d) ≡ 0
+  link-passes = link-made .none
 
-  after-link : (after T (link u s d)) .entries ≡ linked (T .entries) s d
+  pub number : n ≡ freeEntry (T .entries)
+  number = let e : Done (freeEntry (T .entries)) ≡ Done n = sym (ap (λ (o : Outcome). o .reply) (link-made .is-done)) ∙ told in cc
+
+  pub after-link : (after T (link u s d)) .entries ≡ linked (T .entries) s d
   unfolding outcomeOf treeLink
   after-link = ap (λ (o : Outcome). o .left .entries) (link-made .is-done)
 
   source-live : live (T .entries) s ≡ true
   unfolding linkChecks linkShape
-  source-live = not-false _ (passed (linkChecks T u s d) (link-made .none) .1 .0)
+  source-live = not-false _ (passed (linkChecks T u s d) link-passes .1 .0)
 
   room : freeEntry (T .entries) < maxEntries
   unfolding linkChecks linkShape linkVerdict verdict linkLater
-  room = ltb-true (freeEntry (T .entries)) maxEntries (not-false _ (passed (linkChecks T u s d) (link-made .none) .1 .1 .1 .1 .1 .1 .1 .1 .0))
+  room = ltb-true (freeEntry (T .entries)) maxEntries (not-false _ (passed (linkChecks T u s d) link-passes .1 .1 .1 .1 .1 .1 .1 .1 .0))
 
   new-kind : kind ((after T (link u s d)) .entries) n ≡ kind (T .entries) s
   unfolding linked

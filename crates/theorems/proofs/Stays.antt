@@ -17,8 +17,7 @@ use Rattle.laws.proofs.Cells.{cell-put, cell-put-beside}
 use Rattle.laws.proofs.Copies.{copied-before}
 use Rattle.laws.proofs.Refusals.{passed}
 use Rattle.access.specs.Limits.{maxThreads, maxDomain}
-use Rattle.access.specs.declared.errno.Errno.{Errno}
-use Rattle.access.specs.declared.errno.Reply.the-variants.{Done, Refused}
+use Rattle.access.specs.declared.errno.Reply.the-variants.{Done}
 use Rattle.tables.specs.Tables.{Tables, layerWidth, ruleWidth, threadWidth, poolUsed, youngest, noNewPrivs, admin, threadLive}
 use Rattle.tables.specs.Layers.{rulesetAt, layerParent, layerFirst, layerCount, layerAt, layerInUse}
 use Rattle.tables.specs.Outcome.{Outcome, outcome, answer}
@@ -51,6 +50,7 @@ use Rattle.kept_end.proofs.Put.{domain-in-use}
 use Rattle.kept_end.proofs.End.{ended-lives, ended-domain, ended-layer, end-live}
 use Rattle.theorems.specs.Calls.{Call, create-ruleset, close-ruleset, add-path-rule, add-port-rule, restrict, layer-rules, clone, end-thread, set-no-new-privs, set-admin, access, port, create, remove, link, rename, exchange, outcomeOf, after, reply, afterAll, isDone, wouldEnd, ends}
 use Rattle.theorems.specs.Claim.{domainOf, Grown, Lives}
+use Rattle.theorems.proofs.Naming.{done-named}
 use Rattle.theorems.proofs.Chains.{chain-less}
 
 -- what tables T′ keep of T for a thread t that is live in T
@@ -67,11 +67,11 @@ module _ (T : Tables) (cs : List Check) (done : Outcome) where
       (λ h. split (eqb (first cs) 0) (λ q. rw (h, q) (f h (eqb-true (first cs) 0 q))) (λ q. rw (h, q) s))
       (λ h. rw h s)
 
-  call-same : (n : ℕ) (e : Errno) → done .reply ≡ Done n → call T cs done .reply ≡ Refused e → call T cs done .left ≡ T
+  call-same : (n : ℕ) → done .reply ≡ Done n → isDone (call T cs done .reply) ≡ false → call T cs done .left ≡ T
   unfolding call answer first
-  call-same n e d r = split (sound T)
+  call-same n d r = split (sound T)
       (λ h. split (eqb (first cs) 0)
-      (λ q. let k : done .reply ≡ Refused e = rw (h, q) at r in absurd (let z : _≡_ {A = ℕ} 0 1 = cc in omega arith))
+      (λ q. let k : isDone (done .reply) ≡ false = rw (h, q) at r in clash (isDone (done .reply)) (ap isDone d) k)
       (λ q. rw (h, q) refl))
       (λ h. rw h refl)
 
@@ -262,25 +262,25 @@ stays T (rename t s d x) v w keeps = call-stays T _ _ v (stays-self T v w) (λ h
 stays T (exchange t s d x) v w keeps = call-stays T _ _ v (stays-self T v w) (λ h z. stays-alone T _ v w refl refl refl)
 
 -- a refusal "changes no cell"
-pub refused-same : (T : Tables) (c : Call) (e : Errno) → reply T c ≡ Refused e → after T c ≡ T
+pub refused-same : (T : Tables) (c : Call) → isDone (reply T c) ≡ false → after T c ≡ T
 unfolding outcomeOf created createDone closed closeDone pathAdded portAdded addDone restrictCall restrictDone cloned cloneDone endCall endDone privsSet adminSet markDone layerRead accessCall portCall treeCreate treeRemove treeLink treeRename treeExchange
-refused-same T (create-ruleset bs flags) e h = call-same T _ _ _ e refl h
-refused-same T (close-ruleset r) e h = call-same T _ _ _ e refl h
-refused-same T (add-path-rule r x rights flags) e h = call-same T _ _ _ e refl h
-refused-same T (add-port-rule r p rights flags) e h = call-same T _ _ _ e refl h
-refused-same T (restrict t r flags) e h = call-same T _ _ _ e refl h
-refused-same T (layer-rules l) e h = call-same T _ _ _ e refl h
-refused-same T (clone t) e h = call-same T _ _ _ e refl h
-refused-same T (end-thread t) e h = call-same T _ _ _ e refl h
-refused-same T (set-no-new-privs t) e h = call-same T _ _ _ e refl h
-refused-same T (set-admin t on) e h = call-same T _ _ _ e refl h
-refused-same T (access t x m) e h = call-same T _ _ _ e refl h
-refused-same T (port t p m) e h = call-same T _ _ _ e refl h
-refused-same T (create t d k) e h = call-same T _ _ _ e refl h
-refused-same T (remove t x) e h = call-same T _ _ _ e refl h
-refused-same T (link t s d) e h = call-same T _ _ _ e refl h
-refused-same T (rename t s d x) e h = call-same T _ _ _ e refl h
-refused-same T (exchange t s d x) e h = call-same T _ _ _ e refl h
+refused-same T (create-ruleset bs flags) h = call-same T _ _ _ refl h
+refused-same T (close-ruleset r) h = call-same T _ _ _ refl h
+refused-same T (add-path-rule r x rights flags) h = call-same T _ _ _ refl h
+refused-same T (add-port-rule r p rights flags) h = call-same T _ _ _ refl h
+refused-same T (restrict t r flags) h = call-same T _ _ _ refl h
+refused-same T (layer-rules l) h = call-same T _ _ _ refl h
+refused-same T (clone t) h = call-same T _ _ _ refl h
+refused-same T (end-thread t) h = call-same T _ _ _ refl h
+refused-same T (set-no-new-privs t) h = call-same T _ _ _ refl h
+refused-same T (set-admin t on) h = call-same T _ _ _ refl h
+refused-same T (access t x m) h = call-same T _ _ _ refl (sym (done-named _ _ _ _) ∙ h)
+refused-same T (port t p m) h = call-same T _ _ _ refl (sym (done-named _ _ _ _) ∙ h)
+refused-same T (create t d k) h = call-same T _ _ _ refl (sym (done-named _ _ _ _) ∙ h)
+refused-same T (remove t x) h = call-same T _ _ _ refl (sym (done-named _ _ _ _) ∙ h)
+refused-same T (link t s d) h = call-same T _ _ _ refl (sym (done-named _ _ _ _) ∙ h)
+refused-same T (rename t s d x) h = call-same T _ _ _ refl (sym (done-named _ _ _ _) ∙ h)
+refused-same T (exchange t s d x) h = call-same T _ _ _ refl (sym (done-named _ _ _ _) ∙ h)
 
 -- ---- a list of calls
 stays-on : (T T1 T2 : Tables) (t : ℕ) → Stays T T1 t → Stays T1 T2 t → Stays T T2 t

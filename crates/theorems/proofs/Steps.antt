@@ -12,9 +12,10 @@ use Rattle.laws.proofs.Bools.{split, clash}
 use Rattle.laws.proofs.Refusals.{passed}
 use Rattle.access.specs.Limits.{maxEntries}
 use Rattle.access.specs.Rights.{has}
+use Rattle.access.specs.declared.errno.Reply.{Reply}
 use Rattle.tables.specs.Tables.{Tables, counter, kind, parent, object, live, isDir}
 use Rattle.tables.specs.Layers.{layerAt}
-use Rattle.tables.specs.Outcome.{Outcome, answer}
+use Rattle.tables.specs.Outcome.{Outcome, outcome, answer, naming}
 use Rattle.sound_tree.proofs.Facts.{Tree}
 use Rattle.sound.specs.Sound.{sound}
 use Rattle.sound.specs.Call.{call}
@@ -41,6 +42,7 @@ use Rattle.tree.specs.Rename.{renameNames, renameShape, renameVerdict, renameLa
 use Rattle.tree.specs.Exchange.{exchangeNames, exchangeShape, exchangeVerdict, exchangeChecks, swapped, treeExchange}
 use Rattle.theorems.specs.Calls.{Call, create-ruleset, close-ruleset, add-path-rule, add-port-rule, restrict, layer-rules, clone, end-thread, set-no-new-privs, set-admin, access, port, create, remove, link, rename, exchange, outcomeOf, after, caller, isDone, wouldFree, frees}
 use Rattle.theorems.specs.Claim.{domainOf}
+use Rattle.theorems.proofs.Naming.{done-named}
 use Rattle.theorems.proofs.Shut.{gives, Shut, shut-up, Frame, Above}
 use Rattle.kept_tree.proofs.Clear.{Childless, childless}
 use Rattle.kept_tree.proofs.Fill.{free-entry}
@@ -73,6 +75,11 @@ module _ (T : Tables) (s : sound T ≡ true) where
       (λ q. rw (s, q) (f (eqb-true (first cs) 0 q)))
       (λ q. rw (s, q) (still-step u (λ e. false) (λ z. refl)))
 
+  -- a call with a verdict, which names a layer
+  verdict-step : (a b : ℕ → ℕ) (D : List ℕ) (u : ℕ) (cs : List Check) (done : Outcome) (w : ℕ → Bool) → (first cs ≡ 0 → StepOf T u done w)
+      → StepOf T u (naming a b D (call T cs done)) w
+  verdict-step a b D u cs done w f = rw (done-named a b D (call T cs done .reply)) (call-step u cs done w f)
+
   fill-step : (u n k d o : ℕ) (gone : ℕ → Bool) → ((z : ℕ) → gone z ≡ false) → live (T .entries) n ≡ false → Step T u (putEntry (T .entries) n k d o) gone
   fill-step u n k d o gone q free =
       let es = T .entries in
@@ -84,14 +91,14 @@ module _ (T : Tables) (s : sound T ≡ true) where
 
   create-step : (t d k : ℕ) → StepOf T t (treeCreate T t d k) (λ e. false)
   unfolding treeCreate treeCreateChecks createShape createVerdict createLater treeCreated
-  create-step t d k = call-step t (treeCreateChecks T t d k) _ (λ e. false) (λ z.
+  create-step t d k = verdict-step _ _ _ t (treeCreateChecks T t d k) _ (λ e. false) (λ z.
       let p = passed (treeCreateChecks T t d k) z in
       fill-step t (freeEntry (T .entries)) k d (counter (T .system)) (λ e. false) (λ e. refl)
       (free-entry (T .entries) (ltb-true _ maxEntries (not-false _ (p .1 .1 .1 .1 .1 .0)))))
 
   remove-step : (t x : ℕ) → StepOf T t (treeRemove T t x) (λ e. eqb e x)
   unfolding treeRemove removeChecks removeShape removeVerdict removeLater freeRow
-  remove-step t x = call-step t (removeChecks T t x) _ (λ e. eqb e x) (λ z.
+  remove-step t x = verdict-step _ _ _ t (removeChecks T t x) _ (λ e. eqb e x) (λ z.
       let es = T .entries in
       let p = passed (removeChecks T t x) z in
       let cx : Childless es x = childless es (counter (T .system)) whole x (λ z. eqb-false x 0 (p .1 .1 .0) (sym z)) (p .1 .1 .1 .1 .0) in
@@ -102,7 +109,7 @@ module _ (T : Tables) (s : sound T ≡ true) where
 
   link-step : (t a d : ℕ) → StepOf T t (treeLink T t a d) (λ e. false)
   unfolding treeLink linkChecks linkShape linkVerdict linkLater verdict linked
-  link-step t a d = call-step t (linkChecks T t a d) _ (λ e. false) (λ z.
+  link-step t a d = verdict-step _ _ _ t (linkChecks T t a d) _ (λ e. false) (λ z.
       let es = T .entries in
       let p = passed (linkChecks T t a d) z in
       fill-step t (freeEntry es) (kind es a) d (object es a) (λ e. false) (λ e. refl)
@@ -135,7 +142,7 @@ module _ (T : Tables) (s : sound T ≡ true) where
 
   rename-step : (t a d : ℕ) (x : Replaced) → StepOf T t (treeRename T t a d x) (λ e. replacing x (λ y. not (sameObject (T .entries) a y) && eqb e y))
   unfolding treeRename renameChecks renameNames renameShape renameVerdict verdict renameLater moved dropped replacing
-  rename-step t a d None = call-step t (renameChecks T t a d None) _ (λ e. false) (λ z.
+  rename-step t a d None = verdict-step _ _ _ t (renameChecks T t a d None) _ (λ e. false) (λ z.
       let es = T .entries in
       let p = passed (renameChecks T t a d None) z in
       let la : live es a ≡ true = not-false _ (p .1 .0) in
@@ -145,7 +152,7 @@ module _ (T : Tables) (s : sound T ≡ true) where
         frame = move-frame es (counter (T .system)) whole a d la kd (λ e. false) (λ e. refl);
         above = λ l i c hd e q g r h. moved-above t a d la G l i c hd e r h;
       })
-  rename-step t a d (Entry y) = call-step t (renameChecks T t a d (Entry y)) _ (λ e. not (sameObject (T .entries) a y) && eqb e y) (λ z.
+  rename-step t a d (Entry y) = verdict-step _ _ _ t (renameChecks T t a d (Entry y)) _ (λ e. not (sameObject (T .entries) a y) && eqb e y) (λ z.
       let es = T .entries in
       let p = passed (renameChecks T t a d (Entry y)) z in
       let la : live es a ≡ true = not-false _ (p .1 .0) in
@@ -165,7 +172,7 @@ module _ (T : Tables) (s : sound T ≡ true) where
 
   exchange-step : (t a d x : ℕ) → StepOf T t (treeExchange T t a d x) (λ e. false)
   unfolding treeExchange exchangeChecks exchangeNames exchangeShape exchangeVerdict verdict swapped
-  exchange-step t a d x = call-step t (exchangeChecks T t a d x) _ (λ e. false) (λ z.
+  exchange-step t a d x = verdict-step _ _ _ t (exchangeChecks T t a d x) _ (λ e. false) (λ z.
       let es = T .entries in
       let p = passed (exchangeChecks T t a d x) z in
       let la : live es a ≡ true = not-false _ (p .1 .0) in
@@ -188,12 +195,18 @@ module _ (T : Tables) (s : sound T ≡ true) where
       })))
 
   -- every other call leaves the entries alone
-  other-step : (u : ℕ) (cs : List Check) (done : Outcome) → done .left .entries ≡ T .entries → StepOf T u (call T cs done) (λ e. false)
-  other-step u cs done q = call-step u cs done (λ e. false) (λ z. rw q (still-step u (λ e. isDone (done .reply) && false) (λ e. none (isDone (done .reply)))))
+  other-done : (u : ℕ) (done : Outcome) → done .left .entries ≡ T .entries → StepOf T u done (λ e. false)
+  other-done u done q = rw q (still-step u (λ e. isDone (done .reply) && false) (λ e. none (isDone (done .reply))))
     where
       none : (b : Bool) → (b && false) ≡ false
       none true = refl
       none false = refl
+
+  other-step : (u : ℕ) (cs : List Check) (done : Outcome) → done .left .entries ≡ T .entries → StepOf T u (call T cs done) (λ e. false)
+  other-step u cs done q = call-step u cs done (λ e. false) (λ z. other-done u done q)
+
+  request-step : (a b : ℕ → ℕ) (D : List ℕ) (u : ℕ) (cs : List Check) (r : Reply) → StepOf T u (naming a b D (call T cs (outcome r T))) (λ e. false)
+  request-step a b D u cs r = verdict-step a b D u cs (outcome r T) (λ e. false) (λ z. other-done u (outcome r T) refl)
 
   pub step : (c : Call) → Step T (caller c) ((after T c) .entries) (frees T c)
   unfolding outcomeOf caller wouldFree frees created closed createDone closeDone pathAdded portAdded addDone restrictCall restrictDone restricted cloned cloneDone endCall endDone privsSet adminSet markDone layerRead accessCall portCall
@@ -207,8 +220,8 @@ module _ (T : Tables) (s : sound T ≡ true) where
   step (end-thread t) = other-step t _ _ (ended-entries T t)
   step (set-no-new-privs t) = other-step t _ _ refl
   step (set-admin t on) = other-step t _ _ refl
-  step (access t e m) = other-step t _ _ refl
-  step (port t n m) = other-step t _ _ refl
+  step (access t e m) = request-step _ _ _ t _ _
+  step (port t n m) = request-step _ _ _ t _ _
   step (create t d k) = create-step t d k
   step (remove t x) = remove-step t x
   step (link t a d) = link-step t a d

@@ -4,7 +4,7 @@ use mathlib.Core.List.{List, [], _∷_}
 use Prim.Native.Nat.{ℕ}
 use lib.Dec.{eqb}
 use Rattle.access.specs.declared.errno.Reply.{Reply}
-use Rattle.access.specs.declared.errno.Reply.the-variants.{Done, Refused}
+use Rattle.access.specs.declared.errno.Reply.the-variants.{Done, Refused, Denied}
 use Rattle.tables.specs.Tables.{Tables}
 use Rattle.tables.specs.Outcome.{Outcome}
 use Rattle.ruleset.specs.Create.{created, closed}
@@ -110,6 +110,7 @@ caller (exchange t s d x) = t
 abbrev pub isDone : Reply → Bool
 isDone (Done n) = true
 isDone (Refused e) = false
+isDone (Denied e l s) = false
 
 -- the entries that a call frees if it is not refused: "by a remove of it or a rename that replaced it"
 unfoldable pub wouldFree : Tables → Call → ℕ → Bool

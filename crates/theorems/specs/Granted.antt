@@ -7,8 +7,9 @@ use Rattle.laws.specs.Refusals.{first}
 use Rattle.access.specs.Rights.{has}
 use Rattle.access.specs.Errno.{EACCES}
 use Rattle.access.specs.declared.errno.Reply.{Reply}
-use Rattle.access.specs.declared.errno.Reply.the-variants.{Done, Refused}
+use Rattle.access.specs.declared.errno.Reply.the-variants.{Done}
 use Rattle.tables.specs.Tables.{Tables}
+use Rattle.tables.specs.Outcome.{errorOf}
 use Rattle.sound.specs.Sound.{sound}
 use Rattle.fs_access.specs.Access.{accessNames, accessMask}
 use Rattle.net.specs.Port.{portForm}
@@ -23,8 +24,8 @@ Each m P = (i : ℕ) → has m i ≡ true → P i
 pub record Judged (r : Reply) (G : Type 0) : Type 0 where
   pub granted : G → r ≡ Done 0
   pub only : r ≡ Done 0 → G
-  pub denied : (G → ⊥) → r ≡ Refused (record { 0 = EACCES })
-  pub lacked : r ≡ Refused (record { 0 = EACCES }) → G → ⊥
+  pub denied : (G → ⊥) → errorOf r ≡ EACCES
+  pub lacked : errorOf r ≡ EACCES → G → ⊥
 
 -- on sound tables, past the checks that precede the verdict
 pub record RightsAnswered : Type 0 where

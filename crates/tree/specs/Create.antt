@@ -12,6 +12,7 @@ use Rattle.access.specs.declared.errno.Reply.the-variants.{Done}
 use Rattle.tables.specs.Tables.{Tables, tables, counter, kind, parent, live, isDir, threadLive}
 use Rattle.tables.specs.Outcome.{Outcome, outcome}
 use Rattle.judge.specs.Domain.{domain, lacks}
+use Rattle.judge.specs.Blame.{namingEntry}
 use Rattle.fs.specs.Needs.{makeOf, removeOf}
 use Rattle.sound.specs.Call.{call}
 use Rattle.tree.specs.Entries.{freeEntry, unknownKind, isFull, putEntry, freeRow, withEntries}
@@ -48,7 +49,8 @@ treeCreated T d k =
     (T .threads)
 
 unfoldable pub treeCreate : Tables → ℕ → ℕ → ℕ → Outcome
-treeCreate T t d k = call T (treeCreateChecks T t d k) (outcome (Done (freeEntry (T .entries))) (treeCreated T d k))
+treeCreate T t d k =
+    namingEntry T t d (makeOf (kindOf k)) (call T (treeCreateChecks T t d k) (outcome (Done (freeEntry (T .entries))) (treeCreated T d k)))
 
 -- "ESRCH; ENOENT; root .. removed EBUSY"
 unfoldable pub removeShape : Tables → ℕ → ℕ → List Check
@@ -67,4 +69,6 @@ unfoldable pub removeChecks : Tables → ℕ → ℕ → List Check
 removeChecks T t e = removeShape T t e ++ (removeVerdict T t e ++ removeLater T e)
 
 unfoldable pub treeRemove : Tables → ℕ → ℕ → Outcome
-treeRemove T t e = call T (removeChecks T t e) (outcome (Done 0) (withEntries T (freeRow (T .entries) e)))
+treeRemove T t e =
+    namingEntry T t (parent (T .entries) e) (removeOf (kindOf (kind (T .entries) e)))
+    (call T (removeChecks T t e) (outcome (Done 0) (withEntries T (freeRow (T .entries) e))))

@@ -10,6 +10,7 @@ use Rattle.tables.specs.Tables.{Tables, parent, live, isDir, threadLive}
 use Rattle.tables.specs.Outcome.{Outcome, outcome}
 use Rattle.judge.specs.Domain.{domain}
 use Rattle.fs.specs.Move.{verdict}
+use Rattle.fs.specs.Blame.{namingMove}
 use Rattle.sound.specs.Call.{call}
 use Rattle.tree.specs.Entries.{isAbove, sameObject, putParent, withEntries}
 use Rattle.tree.specs.Moves.{exchangeMove}
@@ -46,4 +47,5 @@ unfoldable pub swapped : List ℕ → ℕ → ℕ → ℕ → List ℕ
 swapped es s d x = cond (sameObject es s x) es (putParent (putParent es s d) x (parent es s))
 
 unfoldable pub treeExchange : Tables → ℕ → ℕ → ℕ → ℕ → Outcome
-treeExchange T t s d x = call T (exchangeChecks T t s d x) (outcome (Done 0) (withEntries T (swapped (T .entries) s d x)))
+treeExchange T t s d x =
+    namingMove T t (exchangeMove (T .entries) s d x) (call T (exchangeChecks T t s d x) (outcome (Done 0) (withEntries T (swapped (T .entries) s d x))))

@@ -11,6 +11,7 @@ use Rattle.tables.specs.Tables.{Tables, kind, object, live, isDir, threadLive}
 use Rattle.tables.specs.Outcome.{Outcome, outcome}
 use Rattle.judge.specs.Domain.{domain}
 use Rattle.fs.specs.Move.{verdict}
+use Rattle.fs.specs.Blame.{namingMove}
 use Rattle.sound.specs.Call.{call}
 use Rattle.tree.specs.Entries.{freeEntry, putEntry, withEntries}
 use Rattle.tree.specs.Moves.{linkMove}
@@ -40,4 +41,5 @@ unfoldable pub linked : List ℕ → ℕ → ℕ → List ℕ
 linked es s d = putEntry es (freeEntry es) (kind es s) d (object es s)
 
 unfoldable pub treeLink : Tables → ℕ → ℕ → ℕ → Outcome
-treeLink T t s d = call T (linkChecks T t s d) (outcome (Done (freeEntry (T .entries))) (withEntries T (linked (T .entries) s d)))
+treeLink T t s d =
+    namingMove T t (linkMove (T .entries) s d) (call T (linkChecks T t s d) (outcome (Done (freeEntry (T .entries))) (withEntries T (linked (T .entries) s d))))

@@ -10,6 +10,7 @@ use Rattle.tables.specs.Tables.{Tables, parent, live, isDir, threadLive}
 use Rattle.tables.specs.Outcome.{Outcome, outcome}
 use Rattle.judge.specs.Domain.{domain}
 use Rattle.fs.specs.Move.{verdict}
+use Rattle.fs.specs.Blame.{namingMove}
 use Rattle.sound.specs.Call.{call}
 use Rattle.tree.specs.declared.Replaced.{Replaced}
 use Rattle.tree.specs.declared.Replaced.the-variants.{None, Entry}
@@ -59,4 +60,5 @@ unfoldable pub moved : List ℕ → ℕ → ℕ → Replaced → List ℕ
 moved es s d x = cond (replacing x (sameObject es s)) es (dropped (putParent es s d) x)
 
 unfoldable pub treeRename : Tables → ℕ → ℕ → ℕ → Replaced → Outcome
-treeRename T t s d x = call T (renameChecks T t s d x) (outcome (Done 0) (withEntries T (moved (T .entries) s d x)))
+treeRename T t s d x =
+    namingMove T t (renameMove (T .entries) s d x) (call T (renameChecks T t s d x) (outcome (Done 0) (withEntries T (moved (T .entries) s d x))))

@@ -1,6 +1,9 @@
 // Tests of entries, and changes of their rows.
 use access::limits::MAX_ENTRIES;
 use cells::row_write;
+use tables::rows::ENTRY_KIND;
+use tables::rows::ENTRY_OBJECT;
+use tables::rows::ENTRY_PARENT;
 use tables::rows::ENTRY_WIDTH;
 use tables::rows::entry_live;
 use tables::rows::is_dir;
@@ -89,16 +92,16 @@ pub fn same_object(entries: &[u64], s: u64, x: u64) -> bool
 pub fn put_entry(entries: &mut [u64], e: usize, kind: u64, parent: u64, object: u64)
     ensures { λ r. ⌜ now (entries .exit) ≡ putEntry (now (entries .entry)) e kind parent object ⌝ }
 {
-    row_write(entries, ENTRY_WIDTH, e, 0, kind);
-    row_write(entries, ENTRY_WIDTH, e, 1, parent);
-    row_write(entries, ENTRY_WIDTH, e, 2, object);
+    row_write(entries, ENTRY_WIDTH, e, ENTRY_KIND, kind);
+    row_write(entries, ENTRY_WIDTH, e, ENTRY_PARENT, parent);
+    row_write(entries, ENTRY_WIDTH, e, ENTRY_OBJECT, object);
 }
 
 // Moves an entry to another directory.
 pub fn put_parent(entries: &mut [u64], e: u64, parent: u64)
     ensures { λ r. ⌜ now (entries .exit) ≡ putParent (now (entries .entry)) e parent ⌝ }
 {
-    row_write(entries, ENTRY_WIDTH, e as usize, 1, parent);
+    row_write(entries, ENTRY_WIDTH, e as usize, ENTRY_PARENT, parent);
 }
 
 // Frees an entry's row: its cells become zero.

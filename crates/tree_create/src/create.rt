@@ -6,7 +6,7 @@ use access::limits::MAX_COUNTER;
 use access::limits::MAX_ENTRIES;
 use cells::write;
 use fs::needs::make_of;
-use fs_access::is_denied;
+use tables::rows::LAST_KIND;
 use tables::rows::SYSTEM_COUNTER;
 use tables::rows::counter_of;
 use tables::rows::entry_live;
@@ -14,15 +14,22 @@ use tables::rows::is_dir;
 use tables::rows::thread_live;
 use tree::entries::free_entry;
 use tree::entries::put_entry;
+use verdict::Denial;
+use verdict::Question;
+use verdict::thread_denial;
 ghost use mathlib.Core.Path.{_≡_};
 ghost use Rattle.laws.specs.Refusals.{first};
 ghost use Rattle.tables.specs.Tables.{before, after};
 ghost use Rattle.tables.specs.Outcome.{outcome, answer};
 ghost use Prim.Native.Nat.{_<_};
+ghost use Rattle.access.specs.Kinds.{kindOf};
 ghost use Rattle.access.specs.Limits.{maxCounter};
 ghost use Rattle.tables.specs.Tables.{counter};
+ghost use Rattle.judge.specs.Blame.{entryReply, namingEntry};
+ghost use Rattle.fs.specs.Needs.{makeOf};
+ghost use Rattle.verdict.specs.Denial.{threadDenial};
 ghost use Rattle.tree.specs.Entries.{freeEntry, unknownKind};
-ghost use Rattle.tree.specs.Create.{createShape, createVerdict, createLater, treeCreateChecks, treeCreated};
+ghost use Rattle.tree.specs.Create.{createShape, createLater, treeCreateChecks, treeCreated};
 
 fn unknown_kind(k: u64) -> bool
     ensures { λ r. ⌜ r ≡ unknownKind k ⌝ }
@@ -30,7 +37,7 @@ fn unknown_kind(k: u64) -> bool
     if k == 0 {
         return true;
     }
-    7 < k
+    LAST_KIND < k
 }
 
 fn create_shape(
@@ -61,24 +68,20 @@ fn create_shape(
     0
 }
 
-fn create_verdict(
-    system: &[u64],
+// What the thread's domain denies: the right to make an entry of the kind in the directory.
+fn create_denial(
     entries: &[u64],
-    rulesets: &[u64],
     layers: &[u64],
     pool: &[u64],
     threads: &[u64],
     t: u64,
     d: u64,
     k: u64,
-) -> u64
-    ensures { λ r. ⌜ r ≡ first (createVerdict (before system entries rulesets layers pool threads) t d k) ⌝ }
+) -> Denial
+    ensures { λ r. ⌜ r ≡ threadDenial (now (entries .entry)) (now (layers .entry)) (now (pool .entry)) (now (threads .entry)) t (Question.Entry d (record { 0 = makeOf (kindOf k) })) ⌝ }
 {
     let right = make_of(Kind::of_number(k));
-    if is_denied(entries, layers, pool, threads, t, d, right) {
-        return Errno::EACCES.0;
-    }
-    0
+    thread_denial(entries, layers, pool, threads, t, Question::Entry(d, right))
 }
 
 // `e` is the lowest free entry.
@@ -114,19 +117,19 @@ fn create_checks(
     d: u64,
     k: u64,
     e: usize,
-) -> u64
+) -> Reply
     requires { ⌜ e ≡ freeEntry (now entries) ⌝ }
-    ensures { λ r. ⌜ r ≡ first (treeCreateChecks (before system entries rulesets layers pool threads) t d k) ⌝ }
+    ensures { λ r. ⌜ r ≡ entryReply (before system entries rulesets layers pool threads) t d (makeOf (kindOf k)) (treeCreateChecks (before system entries rulesets layers pool threads) t d k) ⌝ }
 {
     let a = create_shape(system, entries, rulesets, layers, pool, threads, t, d, k);
     if a != 0 {
-        return a;
+        return Reply::Refused(Errno(a));
     }
-    let b = create_verdict(system, entries, rulesets, layers, pool, threads, t, d, k);
-    if b != 0 {
-        return b;
+    let denial = create_denial(entries, layers, pool, threads, t, d, k);
+    if denial.refusal() != 0 {
+        return denial.reply();
     }
-    create_later(system, entries, rulesets, layers, pool, threads, e)
+    Reply::to(create_later(system, entries, rulesets, layers, pool, threads, e))
 }
 
 fn apply_create(
@@ -160,12 +163,12 @@ pub fn create(
     d: u64,
     k: u64,
 ) -> Reply
-    ensures { λ r. ⌜ outcome r (after system entries rulesets layers pool threads) ≡ answer (before system entries rulesets layers pool threads) (treeCreateChecks (before system entries rulesets layers pool threads) t d k) (outcome (Reply.Done (freeEntry (now (entries .entry)))) (treeCreated (before system entries rulesets layers pool threads) d k)) ⌝ }
+    ensures { λ r. ⌜ outcome r (after system entries rulesets layers pool threads) ≡ namingEntry (before system entries rulesets layers pool threads) t d (makeOf (kindOf k)) (answer (before system entries rulesets layers pool threads) (treeCreateChecks (before system entries rulesets layers pool threads) t d k) (outcome (Reply.Done (freeEntry (now (entries .entry)))) (treeCreated (before system entries rulesets layers pool threads) d k))) ⌝ }
 {
     let e = free_entry(entries);
-    let a = create_checks(system, entries, rulesets, layers, pool, threads, t, d, k, e);
-    if a != 0 {
-        return Reply::Refused(Errno(a));
+    let reply = create_checks(system, entries, rulesets, layers, pool, threads, t, d, k, e);
+    if reply.is_refused() {
+        return reply;
     }
     apply_create(system, entries, rulesets, layers, pool, threads, d, k, e);
     Reply::Done(e as u64)

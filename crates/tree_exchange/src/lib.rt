@@ -9,13 +9,18 @@ use tree::entries::is_above;
 use tree::entries::put_parent;
 use tree::entries::same_object;
 use tree_moves::exchange_move;
-use tree_moves::thread_verdict;
+use verdict::Denial;
+use verdict::Question;
+use verdict::thread_denial;
 ghost use mathlib.Core.Path.{_≡_};
 ghost use Rattle.laws.specs.Refusals.{first};
 ghost use Rattle.tables.specs.Tables.{before, after};
 ghost use Rattle.tables.specs.Outcome.{outcome, answer};
+ghost use Rattle.fs.specs.Blame.{moveReply, namingMove};
+ghost use Rattle.verdict.specs.Denial.{threadDenial};
+ghost use Rattle.tree.specs.Moves.{exchangeMove};
 ghost use Rattle.tree.specs.Entries.{withEntries};
-ghost use Rattle.tree.specs.Exchange.{exchangeNames, exchangeShape, exchangeVerdict, exchangeChecks, swapped};
+ghost use Rattle.tree.specs.Exchange.{exchangeNames, exchangeShape, exchangeChecks, swapped};
 
 fn exchange_names(
     system: &[u64],
@@ -70,10 +75,9 @@ fn exchange_shape(entries: &[u64], s: u64, d: u64, x: u64) -> u64
     0
 }
 
-fn exchange_verdict(
-    system: &[u64],
+// What the thread's domain holds against the move.
+fn exchange_denial(
     entries: &[u64],
-    rulesets: &[u64],
     layers: &[u64],
     pool: &[u64],
     threads: &[u64],
@@ -81,16 +85,16 @@ fn exchange_verdict(
     s: u64,
     d: u64,
     x: u64,
-) -> u64
-    ensures { λ r. ⌜ r ≡ first (exchangeVerdict (before system entries rulesets layers pool threads) t s d x) ⌝ }
+) -> Denial
+    ensures { λ r. ⌜ r ≡ threadDenial (now (entries .entry)) (now (layers .entry)) (now (pool .entry)) (now (threads .entry)) t (Question.Move (exchangeMove (now (entries .entry)) s d x)) ⌝ }
 {
-    thread_verdict(
+    thread_denial(
         entries,
         layers,
         pool,
         threads,
         t,
-        exchange_move(entries, s, d, x),
+        Question::Move(exchange_move(entries, s, d, x)),
     )
 }
 
@@ -105,18 +109,18 @@ fn exchange_checks(
     s: u64,
     d: u64,
     x: u64,
-) -> u64
-    ensures { λ r. ⌜ r ≡ first (exchangeChecks (before system entries rulesets layers pool threads) t s d x) ⌝ }
+) -> Reply
+    ensures { λ r. ⌜ r ≡ moveReply (before system entries rulesets layers pool threads) t (exchangeMove (now (entries .entry)) s d x) (exchangeChecks (before system entries rulesets layers pool threads) t s d x) ⌝ }
 {
     let a = exchange_names(system, entries, rulesets, layers, pool, threads, t, s, d, x);
     if a != 0 {
-        return a;
+        return Reply::Refused(Errno(a));
     }
     let b = exchange_shape(entries, s, d, x);
     if b != 0 {
-        return b;
+        return Reply::Refused(Errno(b));
     }
-    exchange_verdict(system, entries, rulesets, layers, pool, threads, t, s, d, x)
+    exchange_denial(entries, layers, pool, threads, t, s, d, x).reply()
 }
 
 // Swaps the parents; two entries of one object stay as they are.
@@ -144,11 +148,11 @@ pub fn exchange(
     d: u64,
     x: u64,
 ) -> Reply
-    ensures { λ r. ⌜ outcome r (after system entries rulesets layers pool threads) ≡ answer (before system entries rulesets layers pool threads) (exchangeChecks (before system entries rulesets layers pool threads) t s d x) (outcome (Reply.Done 0) (withEntries (before system entries rulesets layers pool threads) (swapped (now (entries .entry)) s d x))) ⌝ }
+    ensures { λ r. ⌜ outcome r (after system entries rulesets layers pool threads) ≡ namingMove (before system entries rulesets layers pool threads) t (exchangeMove (now (entries .entry)) s d x) (answer (before system entries rulesets layers pool threads) (exchangeChecks (before system entries rulesets layers pool threads) t s d x) (outcome (Reply.Done 0) (withEntries (before system entries rulesets layers pool threads) (swapped (now (entries .entry)) s d x)))) ⌝ }
 {
-    let a = exchange_checks(system, entries, rulesets, layers, pool, threads, t, s, d, x);
-    if a != 0 {
-        return Reply::Refused(Errno(a));
+    let reply = exchange_checks(system, entries, rulesets, layers, pool, threads, t, s, d, x);
+    if reply.is_refused() {
+        return reply;
     }
     apply_exchange(entries, s, d, x);
     Reply::Done(0)

@@ -10,13 +10,18 @@ use tables::rows::thread_live;
 use tree::entries::free_entry;
 use tree::entries::put_entry;
 use tree_moves::link_move;
-use tree_moves::thread_verdict;
+use verdict::Denial;
+use verdict::Question;
+use verdict::thread_denial;
 ghost use mathlib.Core.Path.{_≡_};
 ghost use Rattle.laws.specs.Refusals.{first};
 ghost use Rattle.tables.specs.Tables.{before, after};
 ghost use Rattle.tables.specs.Outcome.{outcome, answer};
+ghost use Rattle.fs.specs.Blame.{moveReply, namingMove};
+ghost use Rattle.verdict.specs.Denial.{threadDenial};
+ghost use Rattle.tree.specs.Moves.{linkMove};
 ghost use Rattle.tree.specs.Entries.{freeEntry, withEntries};
-ghost use Rattle.tree.specs.Link.{linkShape, linkVerdict, linkLater, linkChecks, linked};
+ghost use Rattle.tree.specs.Link.{linkShape, linkLater, linkChecks, linked};
 
 fn link_shape(
     system: &[u64],
@@ -52,20 +57,26 @@ fn link_shape(
     0
 }
 
-fn link_verdict(
-    system: &[u64],
+// What the thread's domain holds against the move.
+fn link_denial(
     entries: &[u64],
-    rulesets: &[u64],
     layers: &[u64],
     pool: &[u64],
     threads: &[u64],
     t: u64,
     s: u64,
     d: u64,
-) -> u64
-    ensures { λ r. ⌜ r ≡ first (linkVerdict (before system entries rulesets layers pool threads) t s d) ⌝ }
+) -> Denial
+    ensures { λ r. ⌜ r ≡ threadDenial (now (entries .entry)) (now (layers .entry)) (now (pool .entry)) (now (threads .entry)) t (Question.Move (linkMove (now (entries .entry)) s d)) ⌝ }
 {
-    thread_verdict(entries, layers, pool, threads, t, link_move(entries, s, d))
+    thread_denial(
+        entries,
+        layers,
+        pool,
+        threads,
+        t,
+        Question::Move(link_move(entries, s, d)),
+    )
 }
 
 // `e` is the lowest free entry.
@@ -98,19 +109,19 @@ fn link_checks(
     s: u64,
     d: u64,
     e: usize,
-) -> u64
+) -> Reply
     requires { ⌜ e ≡ freeEntry (now entries) ⌝ }
-    ensures { λ r. ⌜ r ≡ first (linkChecks (before system entries rulesets layers pool threads) t s d) ⌝ }
+    ensures { λ r. ⌜ r ≡ moveReply (before system entries rulesets layers pool threads) t (linkMove (now (entries .entry)) s d) (linkChecks (before system entries rulesets layers pool threads) t s d) ⌝ }
 {
     let a = link_shape(system, entries, rulesets, layers, pool, threads, t, s, d);
     if a != 0 {
-        return a;
+        return Reply::Refused(Errno(a));
     }
-    let b = link_verdict(system, entries, rulesets, layers, pool, threads, t, s, d);
-    if b != 0 {
-        return b;
+    let denial = link_denial(entries, layers, pool, threads, t, s, d);
+    if denial.refusal() != 0 {
+        return denial.reply();
     }
-    link_later(system, entries, rulesets, layers, pool, threads, e)
+    Reply::to(link_later(system, entries, rulesets, layers, pool, threads, e))
 }
 
 fn apply_link(entries: &mut [u64], s: u64, d: u64, e: usize)
@@ -134,12 +145,12 @@ pub fn link(
     s: u64,
     d: u64,
 ) -> Reply
-    ensures { λ r. ⌜ outcome r (after system entries rulesets layers pool threads) ≡ answer (before system entries rulesets layers pool threads) (linkChecks (before system entries rulesets layers pool threads) t s d) (outcome (Reply.Done (freeEntry (now (entries .entry)))) (withEntries (before system entries rulesets layers pool threads) (linked (now (entries .entry)) s d))) ⌝ }
+    ensures { λ r. ⌜ outcome r (after system entries rulesets layers pool threads) ≡ namingMove (before system entries rulesets layers pool threads) t (linkMove (now (entries .entry)) s d) (answer (before system entries rulesets layers pool threads) (linkChecks (before system entries rulesets layers pool threads) t s d) (outcome (Reply.Done (freeEntry (now (entries .entry)))) (withEntries (before system entries rulesets layers pool threads) (linked (now (entries .entry)) s d)))) ⌝ }
 {
     let e = free_entry(entries);
-    let a = link_checks(system, entries, rulesets, layers, pool, threads, t, s, d, e);
-    if a != 0 {
-        return Reply::Refused(Errno(a));
+    let reply = link_checks(system, entries, rulesets, layers, pool, threads, t, s, d, e);
+    if reply.is_refused() {
+        return reply;
     }
     apply_link(entries, s, d, e);
     Reply::Done(e as u64)

@@ -1,4 +1,4 @@
-// What a link, rename or exchange asks for, and the verdict on it.
+// What a link, rename or exchange asks for.
 use access::kinds::Kind;
 use access::kinds::MaybeKind;
 use access::rights::Rights;
@@ -10,13 +10,8 @@ use fs::verdict::entry_rights;
 use tables::rows::kind_of;
 use tables::rows::object_of;
 use tables::rows::parent_of;
-use tables::rows::youngest_of;
 use tree::Replaced;
-use verdict::move_verdict;
 ghost use mathlib.Core.Path.{_≡_};
-ghost use Rattle.laws.specs.Refusals.{first};
-ghost use Rattle.judge.specs.Domain.{domain};
-ghost use Rattle.fs.specs.Move.{verdict};
 ghost use Rattle.tree.specs.Moves.{needsFrom, needsTo, kindAt, replacedKind, moveOf, linkMove, renameMove, exchangeMove};
 
 fn asked_of(step: Step, moved: MaybeKind, other: MaybeKind, same: bool) -> Asked
@@ -100,18 +95,4 @@ pub fn exchange_move(entries: &[u64], s: u64, d: u64, x: u64) -> Move
         other,
         back,
     )
-}
-
-// The verdict of the thread's domain on a move.
-pub fn thread_verdict(
-    entries: &[u64],
-    layers: &[u64],
-    pool: &[u64],
-    threads: &[u64],
-    t: u64,
-    m: Move,
-) -> u64
-    ensures { λ r. ⌜ r ≡ first (verdict (now (entries .entry)) (now (layers .entry)) (now (pool .entry)) (domain (now (layers .entry)) (now (threads .entry)) t) m) ⌝ }
-{
-    move_verdict(entries, layers, pool, youngest_of(threads, t), m)
 }

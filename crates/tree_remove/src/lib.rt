@@ -3,19 +3,25 @@ use access::errno::Errno;
 use access::errno::Reply;
 use access::kinds::Kind;
 use fs::needs::remove_of;
-use fs_access::is_denied;
 use tables::rows::entry_live;
 use tables::rows::kind_of;
 use tables::rows::parent_of;
 use tables::rows::thread_live;
 use tree::entries::free_row;
 use tree::entries::is_full;
+use verdict::Denial;
+use verdict::Question;
+use verdict::thread_denial;
 ghost use mathlib.Core.Path.{_≡_};
 ghost use Rattle.laws.specs.Refusals.{first};
-ghost use Rattle.tables.specs.Tables.{before, after};
+ghost use Rattle.access.specs.Kinds.{kindOf};
+ghost use Rattle.tables.specs.Tables.{before, after, kind, parent};
 ghost use Rattle.tables.specs.Outcome.{outcome, answer};
+ghost use Rattle.judge.specs.Blame.{entryReply, namingEntry};
+ghost use Rattle.fs.specs.Needs.{removeOf};
+ghost use Rattle.verdict.specs.Denial.{threadDenial};
 ghost use Rattle.tree.specs.Entries.{freeRow, withEntries};
-ghost use Rattle.tree.specs.Create.{removeShape, removeVerdict, removeLater, removeChecks};
+ghost use Rattle.tree.specs.Create.{removeShape, removeLater, removeChecks};
 
 fn remove_shape(
     system: &[u64],
@@ -41,24 +47,27 @@ fn remove_shape(
     0
 }
 
-fn remove_verdict(
-    system: &[u64],
+// What the thread's domain denies: the right to remove an entry of its kind from its directory.
+fn remove_denial(
     entries: &[u64],
-    rulesets: &[u64],
     layers: &[u64],
     pool: &[u64],
     threads: &[u64],
     t: u64,
     e: u64,
-) -> u64
-    ensures { λ r. ⌜ r ≡ first (removeVerdict (before system entries rulesets layers pool threads) t e) ⌝ }
+) -> Denial
+    ensures { λ r. ⌜ r ≡ threadDenial (now (entries .entry)) (now (layers .entry)) (now (pool .entry)) (now (threads .entry)) t (Question.Entry (parent (now (entries .entry)) e) (record { 0 = removeOf (kindOf (kind (now (entries .entry)) e)) })) ⌝ }
 {
     let directory = parent_of(entries, e);
     let right = remove_of(Kind::of_number(kind_of(entries, e)));
-    if is_denied(entries, layers, pool, threads, t, directory, right) {
-        return Errno::EACCES.0;
-    }
-    0
+    thread_denial(
+        entries,
+        layers,
+        pool,
+        threads,
+        t,
+        Question::Entry(directory, right),
+    )
 }
 
 fn remove_later(
@@ -87,18 +96,18 @@ fn remove_checks(
     threads: &[u64],
     t: u64,
     e: u64,
-) -> u64
-    ensures { λ r. ⌜ r ≡ first (removeChecks (before system entries rulesets layers pool threads) t e) ⌝ }
+) -> Reply
+    ensures { λ r. ⌜ r ≡ entryReply (before system entries rulesets layers pool threads) t (parent (now (entries .entry)) e) (removeOf (kindOf (kind (now (entries .entry)) e))) (removeChecks (before system entries rulesets layers pool threads) t e) ⌝ }
 {
     let a = remove_shape(system, entries, rulesets, layers, pool, threads, t, e);
     if a != 0 {
-        return a;
+        return Reply::Refused(Errno(a));
     }
-    let b = remove_verdict(system, entries, rulesets, layers, pool, threads, t, e);
-    if b != 0 {
-        return b;
+    let denial = remove_denial(entries, layers, pool, threads, t, e);
+    if denial.refusal() != 0 {
+        return denial.reply();
     }
-    remove_later(system, entries, rulesets, layers, pool, threads, e)
+    Reply::to(remove_later(system, entries, rulesets, layers, pool, threads, e))
 }
 
 // Removes an entry, and frees its row.
@@ -112,11 +121,11 @@ pub fn remove(
     t: u64,
     e: u64,
 ) -> Reply
-    ensures { λ r. ⌜ outcome r (after system entries rulesets layers pool threads) ≡ answer (before system entries rulesets layers pool threads) (removeChecks (before system entries rulesets layers pool threads) t e) (outcome (Reply.Done 0) (withEntries (before system entries rulesets layers pool threads) (freeRow (now (entries .entry)) e))) ⌝ }
+    ensures { λ r. ⌜ outcome r (after system entries rulesets layers pool threads) ≡ namingEntry (before system entries rulesets layers pool threads) t (parent (now (entries .entry)) e) (removeOf (kindOf (kind (now (entries .entry)) e))) (answer (before system entries rulesets layers pool threads) (removeChecks (before system entries rulesets layers pool threads) t e) (outcome (Reply.Done 0) (withEntries (before system entries rulesets layers pool threads) (freeRow (now (entries .entry)) e)))) ⌝ }
 {
-    let a = remove_checks(system, entries, rulesets, layers, pool, threads, t, e);
-    if a != 0 {
-        return Reply::Refused(Errno(a));
+    let reply = remove_checks(system, entries, rulesets, layers, pool, threads, t, e);
+    if reply.is_refused() {
+        return reply;
     }
     free_row(entries, e);
     Reply::Done(0)

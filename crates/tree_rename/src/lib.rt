@@ -9,7 +9,6 @@ use tree::entries::free_row;
 use tree::entries::is_above;
 use tree::entries::put_parent;
 use tree_moves::rename_move;
-use tree_moves::thread_verdict;
 use tree_replaced::is_dir_over_other;
 use tree_replaced::is_elsewhere;
 use tree_replaced::is_gone;
@@ -17,12 +16,18 @@ use tree_replaced::is_other_over_dir;
 use tree_replaced::is_over_full;
 use tree_replaced::is_root;
 use tree_replaced::is_same;
+use verdict::Denial;
+use verdict::Question;
+use verdict::thread_denial;
 ghost use mathlib.Core.Path.{_≡_};
 ghost use Rattle.laws.specs.Refusals.{first};
 ghost use Rattle.tables.specs.Tables.{before, after};
 ghost use Rattle.tables.specs.Outcome.{outcome, answer};
+ghost use Rattle.fs.specs.Blame.{moveReply, namingMove};
+ghost use Rattle.verdict.specs.Denial.{threadDenial};
+ghost use Rattle.tree.specs.Moves.{renameMove};
 ghost use Rattle.tree.specs.Entries.{withEntries};
-ghost use Rattle.tree.specs.Rename.{renameNames, renameShape, renameVerdict, renameLater, renameChecks, dropped, moved};
+ghost use Rattle.tree.specs.Rename.{renameNames, renameShape, renameLater, renameChecks, dropped, moved};
 
 fn rename_names(
     system: &[u64],
@@ -74,10 +79,9 @@ fn rename_shape(entries: &[u64], s: u64, d: u64, x: Replaced) -> u64
     0
 }
 
-fn rename_verdict(
-    system: &[u64],
+// What the thread's domain holds against the move.
+fn rename_denial(
     entries: &[u64],
-    rulesets: &[u64],
     layers: &[u64],
     pool: &[u64],
     threads: &[u64],
@@ -85,16 +89,16 @@ fn rename_verdict(
     s: u64,
     d: u64,
     x: Replaced,
-) -> u64
-    ensures { λ r. ⌜ r ≡ first (renameVerdict (before system entries rulesets layers pool threads) t s d x) ⌝ }
+) -> Denial
+    ensures { λ r. ⌜ r ≡ threadDenial (now (entries .entry)) (now (layers .entry)) (now (pool .entry)) (now (threads .entry)) t (Question.Move (renameMove (now (entries .entry)) s d x)) ⌝ }
 {
-    thread_verdict(
+    thread_denial(
         entries,
         layers,
         pool,
         threads,
         t,
-        rename_move(entries, s, d, x),
+        Question::Move(rename_move(entries, s, d, x)),
     )
 }
 
@@ -127,22 +131,22 @@ fn rename_checks(
     s: u64,
     d: u64,
     x: Replaced,
-) -> u64
-    ensures { λ r. ⌜ r ≡ first (renameChecks (before system entries rulesets layers pool threads) t s d x) ⌝ }
+) -> Reply
+    ensures { λ r. ⌜ r ≡ moveReply (before system entries rulesets layers pool threads) t (renameMove (now (entries .entry)) s d x) (renameChecks (before system entries rulesets layers pool threads) t s d x) ⌝ }
 {
     let a = rename_names(system, entries, rulesets, layers, pool, threads, t, s, d, x);
     if a != 0 {
-        return a;
+        return Reply::Refused(Errno(a));
     }
     let b = rename_shape(entries, s, d, x);
     if b != 0 {
-        return b;
+        return Reply::Refused(Errno(b));
     }
-    let c = rename_verdict(system, entries, rulesets, layers, pool, threads, t, s, d, x);
-    if c != 0 {
-        return c;
+    let denial = rename_denial(entries, layers, pool, threads, t, s, d, x);
+    if denial.refusal() != 0 {
+        return denial.reply();
     }
-    rename_later(entries, s, x)
+    Reply::to(rename_later(entries, s, x))
 }
 
 // Frees the replaced entry's row.
@@ -179,11 +183,11 @@ pub fn rename(
     d: u64,
     x: Replaced,
 ) -> Reply
-    ensures { λ r. ⌜ outcome r (after system entries rulesets layers pool threads) ≡ answer (before system entries rulesets layers pool threads) (renameChecks (before system entries rulesets layers pool threads) t s d x) (outcome (Reply.Done 0) (withEntries (before system entries rulesets layers pool threads) (moved (now (entries .entry)) s d x))) ⌝ }
+    ensures { λ r. ⌜ outcome r (after system entries rulesets layers pool threads) ≡ namingMove (before system entries rulesets layers pool threads) t (renameMove (now (entries .entry)) s d x) (answer (before system entries rulesets layers pool threads) (renameChecks (before system entries rulesets layers pool threads) t s d x) (outcome (Reply.Done 0) (withEntries (before system entries rulesets layers pool threads) (moved (now (entries .entry)) s d x)))) ⌝ }
 {
-    let a = rename_checks(system, entries, rulesets, layers, pool, threads, t, s, d, x);
-    if a != 0 {
-        return Reply::Refused(Errno(a));
+    let reply = rename_checks(system, entries, rulesets, layers, pool, threads, t, s, d, x);
+    if reply.is_refused() {
+        return reply;
     }
     apply_rename(entries, s, d, x);
     Reply::Done(0)

@@ -1,12 +1,16 @@
 -- The verdict of a domain on a question: which layer denies it, and what.
-use mathlib.Core.Bool.{Bool, true, false, cond}
+use mathlib.Core.Bool.{cond}
 use mathlib.Core.List.{List, [], _∷_}
 use Prim.Native.Nat.{ℕ, zero, suc}
 use lib.Dec.{eqb}
 use Rattle.access.specs.Errno.{EACCES, EXDEV}
 use Rattle.tables.specs.Layers.{layerAt}
 use Rattle.judge.specs.Judge.{missing, portMissing}
-use Rattle.fs.specs.Move.{deniedNeeds, crossing}
+use Rattle.judge.specs.Domain.{domain}
+use Rattle.fs.specs.Move.{deniedNeeds}
+use Rattle.fs.specs.Blame.{crossed}
+use Rattle.access.specs.declared.errno.Reply.{Reply}
+use Rattle.access.specs.declared.errno.Reply.the-variants.{Done, Denied as DeniedReply}
 use Rattle.verdict.specs.declared.Question.{Question}
 use Rattle.verdict.specs.declared.Question.the-variants.{Entry, Port, Move}
 use Rattle.verdict.specs.declared.Denial.{Denial}
@@ -18,11 +22,11 @@ deniedBy es ls ps (Entry e m) l = missing es (layerAt ls ps l) e (m .0)
 deniedBy es ls ps (Port p m) l = portMissing (layerAt ls ps l) p (m .0)
 deniedBy es ls ps (Move m) l = deniedNeeds es (layerAt ls ps l) m
 
--- what layer l holds against a move between two directories: REFER, and the rights that fail containment
+-- what layer l holds against a move between two directories: REFER, or the rights that fail containment
 unfoldable pub crossedBy : List ℕ → List ℕ → List ℕ → Question → ℕ → ℕ
 crossedBy es ls ps (Entry e m) l = 0
 crossedBy es ls ps (Port p m) l = 0
-crossedBy es ls ps (Move m) l = crossing es (layerAt ls ps l) m
+crossedBy es ls ps (Move m) l = crossed es (layerAt ls ps l) m
 
 -- the first crossing that was met: its layer (the number + 1, or 0 for none) and its set
 abbrev pub keptAt : ℕ → ℕ → ℕ → ℕ
@@ -40,14 +44,18 @@ unfoldable pub denial : (ℕ → ℕ) → (ℕ → ℕ) → ℕ → ℕ → List
 denial a b k set [] = crossedAt k set
 denial a b k set (l ∷ D) = let r = denial a b (keptAt k (suc l) (b l)) (keptSet k set (b l)) D in cond (eqb (a l) 0) r (Denied l (record { 0 = a l }))
 
--- some layer denies a right that was asked for, or a need
-unfoldable pub isDenied : Denial → Bool
-isDenied None = false
-isDenied (Denied l s) = true
-isDenied (Crossed l s) = false
+-- the denial by the domain of a thread
+unfoldable pub threadDenial : List ℕ → List ℕ → List ℕ → List ℕ → ℕ → Question → Denial
+threadDenial es ls ps ts t q = denial (deniedBy es ls ps q) (crossedBy es ls ps q) 0 0 (domain ls ts t)
 
 -- "A denied need other than REFER is EACCES; else denied REFER or failed containment is EXDEV"
 unfoldable pub refusalOf : Denial → ℕ
 refusalOf None = 0
 refusalOf (Denied l s) = EACCES
 refusalOf (Crossed l s) = EXDEV
+
+-- the reply that names the layer
+unfoldable pub replyOf : Denial → Reply
+replyOf None = Done 0
+replyOf (Denied l s) = DeniedReply (record { 0 = EACCES }) l s
+replyOf (Crossed l s) = DeniedReply (record { 0 = EXDEV }) l s

@@ -53,7 +53,7 @@ pub struct Asked {
     pub last: u64,
 }
 
-// The number of a success, or E and the number of the error.
+// The number of a success, or E and the number of the error, with the layer and the rights that it names.
 fn show(shown: bool, answer: Reply) {
     if !shown {
         return;
@@ -66,6 +66,15 @@ fn show(shown: bool, answer: Reply) {
         Reply::Refused(e) => {
             io::write_all(STDOUT_FILENO, b" E");
             io::print_decimal(STDOUT_FILENO, e.0);
+        }
+        Reply::Denied(e, layer, rights) => {
+            io::write_all(STDOUT_FILENO, b" E");
+            io::print_decimal(STDOUT_FILENO, e.0);
+            io::write_all(STDOUT_FILENO, b" (layer ");
+            io::print_decimal(STDOUT_FILENO, layer);
+            io::write_all(STDOUT_FILENO, b", rights ");
+            io::print_decimal(STDOUT_FILENO, rights.0);
+            io::write_all(STDOUT_FILENO, b")");
         }
     }
 }

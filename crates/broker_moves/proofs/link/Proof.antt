@@ -1,6 +1,6 @@
 -- Assumes nothing.
 use borrow.Author.Needs.{needs}
-use Rattle.sound.proofs.Calls.{call-unsound, call-passes}
+use Rattle.sound.proofs.Calls.{named-unsound, named-passes}
 use Rattle.tree.specs.Link.{treeLink}
 use Rattle.broker_moves.proofs.link.Statement.{statement}
 use Rattle.broker_moves.proofs.link.Tie as tie
@@ -12,10 +12,10 @@ link-spec =
     (tie.spec
     (λ c κs. tt)
     (λ c. search needs)
-    (λ c. call-unsound _ _ _ (c .before .is-sound .ensures) (c .if1 .taken))
+    (λ c. named-unsound _ _ _ _ _ _ (c .before .is-sound .ensures) (c .if1 .taken))
     (λ c κs. tt)
     (λ c. search needs)
     (λ c.
     let d = c .before .before in
     let t = d .before .before in
-    call-passes _ _ _ (t .before .is-sound .ensures) (t .if1 .left) (d .link .ensures)))
+    named-passes _ _ _ _ _ _ (t .before .is-sound .ensures) (t .if1 .left) (d .link .ensures)))

@@ -1,5 +1,6 @@
 -- Assumes nothing.
-use Rattle.capi.proofs.Answers.{answers}
+use borrow.Author.Needs.{needs}
+use Rattle.capi.proofs.Answers.{tells}
 use Rattle.capi.proofs.skein_access.Statement.{statement}
 use Rattle.capi.proofs.skein_access.Tie as tie
 
@@ -9,4 +10,6 @@ skein-access-spec =
     (tie.spec
     (λ c κs. tt)
     (λ c κs. tt)
-    (λ c. answers _ _ (c .before .access .ensures) (c .number .ensures)))
+    (λ c κs. tt)
+    (λ c. search needs)
+    (λ c. let w = c .before .before .before in tells _ _ _ (w .before .before .access .ensures) (c .number .ensures) (w .report-denial .ensures)))

@@ -1,6 +1,6 @@
 -- Assumes nothing.
 use borrow.Author.Needs.{needs}
-use Rattle.capi.proofs.Answers.{answers}
+use Rattle.capi.proofs.Answers.{tells}
 use Rattle.capi.proofs.skein_create.Statement.{statement}
 use Rattle.capi.proofs.skein_create.Tie as tie
 
@@ -10,6 +10,8 @@ skein-create-spec =
     (tie.spec
     (λ c κs. tt)
     (λ c κs. tt)
+    (λ c κs. tt)
     (λ c. search needs)
     (λ c. search needs)
-    (λ c. answers _ _ (c .before .before .before .before .before .create .ensures) (c .number .ensures)))
+    (λ c. search needs)
+    (λ c. let w = c .before .before .before in tells _ _ _ (w .before .before .before .before .before .before .create .ensures) (c .number .ensures) (w .report-denial .ensures)))

@@ -1,5 +1,6 @@
 -- Assumes nothing.
-use Rattle.capi.proofs.Answers.{answers}
+use borrow.Author.Needs.{needs}
+use Rattle.capi.proofs.Answers.{tells}
 use Rattle.capi.proofs.skein_port.Statement.{statement}
 use Rattle.capi.proofs.skein_port.Tie as tie
 
@@ -9,4 +10,6 @@ skein-port-spec =
     (tie.spec
     (λ c κs. tt)
     (λ c κs. tt)
-    (λ c. answers _ _ (c .before .port .ensures) (c .number .ensures)))
+    (λ c κs. tt)
+    (λ c. search needs)
+    (λ c. let w = c .before .before .before in tells _ _ _ (w .before .before .port .ensures) (c .number .ensures) (w .report-denial .ensures)))

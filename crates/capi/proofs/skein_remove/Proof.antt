@@ -1,6 +1,6 @@
 -- Assumes nothing.
 use borrow.Author.Needs.{needs}
-use Rattle.capi.proofs.Answers.{answers}
+use Rattle.capi.proofs.Answers.{tells}
 use Rattle.capi.proofs.skein_remove.Statement.{statement}
 use Rattle.capi.proofs.skein_remove.Tie as tie
 
@@ -10,5 +10,7 @@ skein-remove-spec =
     (tie.spec
     (λ c κs. tt)
     (λ c κs. tt)
+    (λ c κs. tt)
     (λ c. search needs)
-    (λ c. answers _ _ (c .before .before .before .remove .ensures) (c .number .ensures)))
+    (λ c. search needs)
+    (λ c. let w = c .before .before .before in tells _ _ _ (w .before .before .before .before .remove .ensures) (c .number .ensures) (w .report-denial .ensures)))

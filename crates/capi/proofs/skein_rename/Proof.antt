@@ -1,6 +1,6 @@
 -- Assumes nothing.
 use borrow.Author.Needs.{needs}
-use Rattle.capi.proofs.Answers.{answers}
+use Rattle.capi.proofs.Answers.{tells}
 use Rattle.capi.proofs.skein_rename.Statement.{statement}
 use Rattle.capi.proofs.skein_rename.Tie as tie
 
@@ -11,5 +11,10 @@ skein-rename-spec =
     (λ c κs. tt)
     (λ c κs. tt)
     (λ c κs. tt)
+    (λ c κs. tt)
     (λ c. search needs)
-    (λ c. let r = c .before .before .before in rw (← r .before .replaced-by .ensures) (answers _ _ (r .rename .ensures) (c .number .ensures))))
+    (λ c. search needs)
+    (λ c.
+    let w = c .before .before .before in
+    let r = w .before .before .before .before in
+    rw (← r .before .replaced-by .ensures) (tells _ _ _ (r .rename .ensures) (c .number .ensures) (w .report-denial .ensures))))

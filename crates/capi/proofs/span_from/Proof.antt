@@ -10,4 +10,4 @@ span-from-spec =
     (λ c. rw (ne-eqb _ _ (c .if1 .taken)))
     (λ c κs. tt)
     (λ c κs. tt)
-    (λ c. let r = c .before in rw (eq-eqb _ _ (r .before .if1 .left), ← r .row-read .ensures) (c .cells-of .ensures)))
+    (λ c. let r = c .before in rw (eq-eqb _ _ (r .before .if1 .left), ← r .layer-first .ensures) (c .cells-of .ensures)))

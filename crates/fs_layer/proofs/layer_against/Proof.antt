@@ -1,5 +1,5 @@
 -- Assumes nothing.
-use Rattle.fs.proofs.Against.{needs-by, crossing-is}
+use Rattle.fs.proofs.Against.{needs-by, crossed-is}
 use Rattle.fs_layer.proofs.layer_against.Statement.{statement}
 use Rattle.fs_layer.proofs.layer_against.Tie as tie
 
@@ -23,5 +23,5 @@ layer-against-spec =
     let w = at1 .before .compared-rights .ensures in
     let m = at1 .before .before .before .before .before .args .m in (
       needs-by _ _ m w (at1 .join .ensures) (d1 .layer-missing .ensures) (at2 .join2 .ensures) (d2 .layer-missing2 .ensures) (n .needs-against .ensures),
-      crossing-is _ _ m w (at1 .join .ensures) (d1 .layer-missing .ensures) (at2 .join2 .ensures) (d2 .layer-missing2 .ensures) (c .crossing-against .ensures),
+      crossed-is _ _ m w (at1 .join .ensures) (d1 .layer-missing .ensures) (at2 .join2 .ensures) (d2 .layer-missing2 .ensures) (c .crossed-against .ensures),
     )))

@@ -1,4 +1,5 @@
 -- Assumes nothing.
+use Rattle.verdict.proofs.Answers.{move-is}
 use Rattle.measured.proofs.skein_measure_rename.Statement.{statement}
 use Rattle.measured.proofs.skein_measure_rename.Tie as tie
 
@@ -8,4 +9,5 @@ skein-measure-rename-spec =
     (tie.spec
     (λ c κs. tt)
     (λ c κs. tt)
-    (λ c. rw (← c .before .rename-move .ensures) (c .thread-verdict .ensures)))
+    (λ c κs. tt)
+    (λ c. let d = c .before in rw (← d .before .rename-move .ensures) (move-is _ _ _ _ _ _ (d .thread-denial .ensures) (c .refusal .ensures))))

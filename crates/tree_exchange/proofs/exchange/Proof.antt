@@ -1,6 +1,6 @@
 -- Assumes nothing.
 use borrow.Author.Needs.{needs}
-use Rattle.tables.proofs.Outcomes.{answer-refused, answer-done}
+use Rattle.tables.proofs.Blames.{named-refused, named-done}
 use Rattle.tree_exchange.proofs.exchange.Statement.{statement}
 use Rattle.tree_exchange.proofs.exchange.Tie as tie
 
@@ -9,11 +9,13 @@ exchange-spec =
     tie.close
     (tie.spec
     (λ c κs. tt)
+    (λ c κs. tt)
     (λ c. search needs)
-    (λ c. answer-refused _ _ _ (c .before .exchange-checks .ensures) (c .if1 .taken))
+    (λ c. let r = c .before in named-refused _ _ _ _ _ (r .before .exchange-checks .ensures) _ (r .is-refused .ensures) (c .if1 .taken))
     (λ c κs. tt)
     (λ c. search needs)
     (λ c.
     let a = c .before .before in
     let i = a .before .before in
-    rw (a .apply-exchange .ensures) (answer-done _ _ _ (i .before .exchange-checks .ensures) (i .if1 .left))))
+    let r = i .before in
+    rw (a .apply-exchange .ensures) (named-done _ _ _ _ _ (r .before .exchange-checks .ensures) _ _ (r .is-refused .ensures) (i .if1 .left))))

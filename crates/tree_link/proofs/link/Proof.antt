@@ -1,6 +1,6 @@
 -- Assumes nothing.
 use borrow.Author.Needs.{needs}
-use Rattle.tables.proofs.Outcomes.{answer-refused, answer-done}
+use Rattle.tables.proofs.Blames.{named-refused, named-done}
 use Rattle.tree_link.proofs.link.Statement.{statement}
 use Rattle.tree_link.proofs.link.Tie as tie
 
@@ -10,11 +10,13 @@ link-spec =
     (tie.spec
     (λ c κs. tt)
     (λ c κs. c .before .free-entry .ensures)
+    (λ c κs. tt)
     (λ c. search needs)
-    (λ c. answer-refused _ _ _ (c .before .link-checks .ensures) (c .if1 .taken))
-    (λ c κs. c .before .before .before .before .free-entry .ensures)
+    (λ c. let r = c .before in named-refused _ _ _ _ _ (r .before .link-checks .ensures) _ (r .is-refused .ensures) (c .if1 .taken))
+    (λ c κs. c .before .before .before .before .before .free-entry .ensures)
     (λ c. search needs)
     (λ c.
     let a = c .before .before in
     let i = a .before .before in
-    rw (a .apply-link .ensures, i .before .before .before .free-entry .ensures) (answer-done _ _ _ (i .before .link-checks .ensures) (i .if1 .left))))
+    let r = i .before in
+    rw (a .apply-link .ensures, r .before .before .before .free-entry .ensures) (named-done _ _ _ _ _ (r .before .link-checks .ensures) _ _ (r .is-refused .ensures) (i .if1 .left))))

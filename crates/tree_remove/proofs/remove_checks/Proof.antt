@@ -1,20 +1,34 @@
 -- Assumes nothing.
-use Rattle.laws.proofs.Refusals.{join-stop, join-go}
-use Rattle.tree.specs.Create.{removeShape, removeVerdict, removeChecks}
+use Rattle.tables.proofs.Blames.{name-stop, name-go, name-last}
+use Rattle.verdict.proofs.Answers.{entry-is, entry-stop}
+use Rattle.tree.specs.Create.{removeShape, removeVerdict, removeLater, removeChecks}
 use Rattle.tree_remove.proofs.remove_checks.Statement.{statement}
 use Rattle.tree_remove.proofs.remove_checks.Tie as tie
 
 pub remove-checks-spec : {M : Type 1} → statement M
-unfolding removeChecks removeShape removeVerdict
+unfolding removeChecks removeShape removeVerdict removeLater
 remove-checks-spec =
     tie.close
     (tie.spec
     (λ c κs. tt)
-    (λ c. join-stop _ _ (c .before .remove-shape .ensures) (c .if1 .taken))
+    (λ c. name-stop _ _ _ _ _ tt (c .before .remove-shape .ensures) (c .if1 .taken))
     (λ c κs. tt)
-    (λ c. join-go _ _ tt (c .before .before .before .remove-shape .ensures) (c .before .before .if1 .left) (join-stop _ _ (c .before .remove-verdict .ensures) (c .if2 .taken)))
+    (λ c κs. tt)
     (λ c κs. tt)
     (λ c.
-    let m = c .before in
-    let n = m .before .before in
-    join-go _ _ tt (n .before .remove-shape .ensures) (n .if1 .left) (join-go _ _ tt (m .before .remove-verdict .ensures) (m .if2 .left) (c .remove-later .ensures))))
+    let i = c .before in
+    let f = i .before in
+    let d = f .before in
+    let n = d .before in
+    name-go _ _ _ _ _ tt (n .before .remove-shape .ensures) (n .if1 .left)
+    (entry-stop _ _ _ _ _ _ _ (d .remove-denial .ensures) (c .reply .ensures) _ (f .refusal .ensures) (i .if2 .taken)))
+    (λ c κs. tt)
+    (λ c κs. tt)
+    (λ c.
+    let l = c .before in
+    let i = l .before in
+    let f = i .before in
+    let d = f .before in
+    let n = d .before in
+    name-go _ _ _ _ _ tt (n .before .remove-shape .ensures) (n .if1 .left)
+    (name-go _ _ _ _ _ tt (entry-is _ _ _ _ _ _ _ (d .remove-denial .ensures) (f .refusal .ensures)) (i .if2 .left) (name-last _ _ _ _ tt (l .remove-later .ensures) (c .to .ensures)))))

@@ -1,6 +1,6 @@
 -- Assumes nothing.
 use borrow.Author.Needs.{needs}
-use Rattle.tables.proofs.Outcomes.{answer-refused, answer-done}
+use Rattle.tables.proofs.Blames.{named-refused, named-done}
 use Rattle.tree_rename.proofs.rename.Statement.{statement}
 use Rattle.tree_rename.proofs.rename.Tie as tie
 
@@ -9,11 +9,13 @@ rename-spec =
     tie.close
     (tie.spec
     (λ c κs. tt)
+    (λ c κs. tt)
     (λ c. search needs)
-    (λ c. answer-refused _ _ _ (c .before .rename-checks .ensures) (c .if1 .taken))
+    (λ c. let r = c .before in named-refused _ _ _ _ _ (r .before .rename-checks .ensures) _ (r .is-refused .ensures) (c .if1 .taken))
     (λ c κs. tt)
     (λ c. search needs)
     (λ c.
     let a = c .before .before in
     let i = a .before .before in
-    rw (a .apply-rename .ensures) (answer-done _ _ _ (i .before .rename-checks .ensures) (i .if1 .left))))
+    let r = i .before in
+    rw (a .apply-rename .ensures) (named-done _ _ _ _ _ (r .before .rename-checks .ensures) _ _ (r .is-refused .ensures) (i .if1 .left))))

@@ -48,6 +48,6 @@ domain-denial-spec =
     let h = e .before .before in
     let b = h .before in
     let l = b .before .before .loop in
-    loop-up _ _ _ (l .k) (l .set) (l .n) (l .at) (l .inv) (b .if1 .left) (omega arith) (h .layer-holds .ensures .0) (e .is-empty .ensures) (not-false _ (d .if2 .left)) (h .layer-holds .ensures .1) (u .kept-set .ensures) (v .kept-at .ensures) (c .row-read .ensures))
+    loop-up _ _ _ (l .k) (l .set) (l .n) (l .at) (l .inv) (b .if1 .left) (omega arith) (h .layer-holds .ensures .0) (e .is-empty .ensures) (not-false _ (d .if2 .left)) (h .layer-holds .ensures .1) (u .kept-set .ensures) (v .kept-at .ensures) (c .layer-parent .ensures))
     (λ c κs. tt)
     (λ c. let l = c .before .before .loop in loop-none _ _ _ (l .k) (l .set) (l .n) (l .at) (l .inv) (omega arith) (c .crossed-at2 .ensures)))

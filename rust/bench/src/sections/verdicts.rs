@@ -74,15 +74,17 @@ fn access(effort: Effort, name: &str, tables: &Tables) {
         &mut [
             &mut |i: u64| {
                 let (entry, asked) = requests.at(i);
-                core::lacks(tables, youngest, entry, asked).into()
+                core::access_verdict(tables, THREAD, entry, asked)
             },
             &mut |i: u64| {
                 let (entry, asked) = requests.at(i);
-                verdict::lacks(tables, youngest, entry, asked).into()
+                verdict::access_verdict(tables, youngest, entry, asked).errno
             },
             &mut |i: u64| {
                 let (entry, asked) = requests.at(i);
-                policy.lacks(THREAD as usize, entry as usize, asked).into()
+                policy
+                    .access_verdict(THREAD as usize, entry as usize, asked)
+                    .errno
             },
         ],
     );
@@ -102,11 +104,14 @@ fn rename(effort: Effort, name: &str, tables: &Tables) {
             },
             &mut |i: u64| {
                 let (source, directory) = requests.at(i);
-                verdict::rename_verdict(tables, THREAD, source, directory)
+                verdict::rename_verdict(tables, THREAD, source, directory).errno
             },
             &mut |i: u64| {
                 let (source, directory) = requests.at(i);
-                policy.rename_verdict(THREAD as usize, source as usize, directory as usize)
+                let [source, directory] = [source, directory].map(|entry| entry as usize);
+                policy
+                    .rename_verdict(THREAD as usize, source, directory)
+                    .errno
             },
         ],
     );

@@ -1,5 +1,5 @@
 -- Assumes nothing.
-use Rattle.sound.proofs.Calls.{call-unsound, call-passes}
+use Rattle.sound.proofs.Calls.{named-unsound, named-passes}
 use Rattle.net.specs.Port.{portCall}
 use Rattle.broker.proofs.ports.port.Statement.{statement}
 use Rattle.broker.proofs.ports.port.Tie as tie
@@ -10,9 +10,9 @@ port-spec =
     tie.close
     (tie.spec
     (λ c κs. tt)
-    (λ c. call-unsound _ _ _ (c .before .is-sound .ensures) (c .if1 .taken))
+    (λ c. named-unsound _ _ _ _ _ _ (c .before .is-sound .ensures) (c .if1 .taken))
     (λ c κs. tt)
     (λ c.
     let d = c in
     let t = d .before in
-    call-passes _ _ _ (t .before .is-sound .ensures) (t .if1 .left) (d .port .ensures)))
+    named-passes _ _ _ _ _ _ (t .before .is-sound .ensures) (t .if1 .left) (d .port .ensures)))

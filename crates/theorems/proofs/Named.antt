@@ -1,0 +1,377 @@
+-- Which layer a refusal names. Assumes nothing.
+use mathlib.Core.Path.{_≡_, refl, sym, ap, ap₂, subst, _∙_}
+use mathlib.Core.Bool.{Bool, true, false, not, cond, _&&_, _||_}
+use mathlib.Core.List.{List, [], _∷_}
+use mathlib.Core.Logic.{_⊎_, inl, inr}
+use Prim.Native.Nat.{ℕ, _<_}
+use native.Mathlib.Omega.{arith}
+use lib.Dec.{eqb}
+use borrow.Author.Tests.{eq-eqb, eqb-true, eqb-false}
+use Rattle.laws.specs.Refusals.{Check, _⇒_, first}
+use Rattle.laws.specs.Tests.{any, elem}
+use Rattle.laws.proofs.Bools.{split, clash, either, and-l, or-cases, or-left, or-right}
+use Rattle.access.specs.Errno.{EIO, ESRCH, EACCES, EXDEV}
+use Rattle.access.specs.Kinds.{kindOf}
+use Rattle.access.specs.Limits.{maxLayers}
+use Rattle.access.specs.Rights.{has, join, without, within, REFER}
+use Rattle.access.proofs.Laws.{has-join, has-without, has-none, ext-has, within-has, has-within}
+use Rattle.access.specs.declared.errno.Errno.{Errno}
+use Rattle.access.specs.declared.errno.Reply.{Reply}
+use Rattle.access.specs.declared.errno.Reply.the-variants.{Done, Refused, Denied}
+use Rattle.access.specs.declared.rights.Rights.{Rights}
+use Rattle.tables.specs.Tables.{Tables, kind, parent, pathRule, threadLive}
+use Rattle.tables.specs.Layers.{Layer, layerAt}
+use Rattle.tables.specs.Outcome.{Outcome, errorOf, answer, blame, named}
+use Rattle.sound.specs.Sound.{sound}
+use Rattle.sound.specs.Call.{call}
+use Rattle.sound.proofs.Facts.{facts}
+use Rattle.sound.proofs.Calls.{call-unsound, call-refused, call-done}
+use Rattle.judge.specs.Domain.{lacks, layerLacks, portLacks, layerPortLacks}
+use Rattle.judge.specs.Rules.{rightsOn}
+use Rattle.judge.specs.Judge.{denied, missing, portMissing}
+use Rattle.judge.proofs.Laws.{has-missing, has-port-missing}
+use Rattle.ruleset.specs.Create.{createForm, createMasks, createChecks, createDone, created, closeChecks, closeDone, closed}
+use Rattle.rule.specs.Rule.{addForm, pathForm, portForm as rulePortForm, addPathChecks, addPortChecks, addDone, pathAdded, portAdded}
+use Rattle.domain_restrict.specs.Restrict.{restrictForm, restrictRoom, restrictChecks, restrictDone, restrictCall}
+use Rattle.domain.specs.Threads.{cloneChecks, cloneDone, cloned, markChecks, markDone, privsSet, adminSet}
+use Rattle.domain.specs.Layer.{layerChecks, layerRead}
+use Rattle.domain_end.specs.End.{endChecks, endDone, endCall}
+use Rattle.kept_end.proofs.Reached.{reached-in-use}
+use Rattle.fs.specs.Needs.{makeOf, removeOf}
+use Rattle.fs.specs.Move.{deniedNeeds, deniedRefer, uncontained, escaping, layerDenies, verdict}
+use Rattle.fs.specs.Blame.{crossed}
+use Rattle.fs.proofs.Crossed.{crosses-any}
+use Rattle.fs.specs.declared.verdict.Move.{Move}
+use Rattle.fs_access.specs.Access.{accessNames, accessMask, accessChecks, accessCall}
+use Rattle.net.specs.Port.{portForm, portChecks, portCall}
+use Rattle.tree.specs.declared.Replaced.{Replaced}
+use Rattle.tree.specs.Moves.{linkMove, renameMove, exchangeMove}
+use Rattle.tree.specs.Create.{createShape, createVerdict, createLater, treeCreateChecks, treeCreate, removeShape, removeVerdict, removeLater, removeChecks, treeRemove}
+use Rattle.tree.specs.Link.{linkShape, linkVerdict, linkLater, linkChecks, treeLink}
+use Rattle.tree.specs.Rename.{renameNames, renameShape, renameVerdict, renameLater, renameChecks, treeRename}
+use Rattle.tree.specs.Exchange.{exchangeNames, exchangeShape, exchangeVerdict, exchangeChecks, treeExchange}
+use Rattle.theorems.specs.Calls.{Call, create-ruleset, close-ruleset, add-path-rule, add-port-rule, restrict, layer-rules, clone, end-thread, set-no-new-privs, set-admin, access, port, create, remove, link, rename, exchange, outcomeOf, caller, reply}
+use Rattle.theorems.specs.Claim.{domainOf}
+use Rattle.theorems.specs.Named.{refusalsOf, deniedBy, crossedBy, askedBy, movedBy, Youngest, here, older, LayerNamed}
+use Rattle.theorems.proofs.Naming.{blame-error, error-named}
+
+-- a set is not empty
+abbrev some : (ℕ → ℕ) → ℕ → Bool
+some f l = not (eqb (f l) 0)
+
+abbrev no : ℕ → Reply
+no e = Refused (record { 0 = e })
+
+-- ---- the layers of a domain
+module _ (e : ℕ) (f : ℕ → ℕ) where
+  blame-youngest : (D : List ℕ) {x : Errno} {l : ℕ} {s : Rights} → blame e f D ≡ Denied x l s → Youngest f D l (s .0)
+  unfolding blame
+  blame-youngest [] h = absurd (let z : _≡_ {A = ℕ} 0 1 = cc in omega arith)
+  blame-youngest (k ∷ D) {x} {l} {s} h = split (eqb (f k) 0)
+      (λ q. older (eqb-true (f k) 0 q) (blame-youngest D (rw q at h)))
+      (λ q.
+      let p : Denied (record { 0 = e }) k (record { 0 = f k }) ≡ Denied x l s = rw q at h in
+      let a : k ≡ l = cc in
+      let b : f k ≡ s .0 = cc in
+      subst (λ (i : ℕ). Youngest f (k ∷ D) i (s .0)) a (subst (λ (m : ℕ). Youngest f (k ∷ D) k m) b (here (eqb-false (f k) 0 q))))
+
+  blame-none : (D : List ℕ) {x : Errno} → blame e f D ≡ Refused x → any (some f) D ≡ false
+  unfolding blame any
+  blame-none [] h = refl
+  blame-none (k ∷ D) {x} h = split (eqb (f k) 0)
+      (λ q. rw q (blame-none D (rw q at h)))
+      (λ q. let p : Denied (record { 0 = e }) k (record { 0 = f k }) ≡ Refused x = rw q at h in absurd (let z : _≡_ {A = ℕ} 0 1 = cc in omega arith))
+
+youngest-in : {f : ℕ → ℕ} {D : List ℕ} {l s : ℕ} → Youngest f D l s → elem l D ≡ true
+unfolding elem
+youngest-in (here {l} {D} n) = or-left (eqb l l) (elem l D) (eq-eqb l l refl)
+youngest-in (older {k} {l} {s} {D} z y) = or-right (eqb l k) (elem l D) (youngest-in y)
+
+-- ---- the tests of a list that answer e all fail
+abbrev Lacks : ℕ → List Check → Type 0
+Lacks e [] = Unit {0}
+Lacks e ((b ⇒ n) ∷ cs) = cond (eqb n e) ((b ≡ false) × Lacks e cs) (Lacks e cs)
+
+lacks-first : (e : ℕ) (cs : List Check) → Lacks e cs → (e ≡ 0 → ⊥) → first cs ≡ e → ⊥
+unfolding first
+lacks-first e [] p n h = n (sym h)
+lacks-first e ((false ⇒ m) ∷ cs) p n h = split (eqb m e)
+    (λ q. let z : (false ≡ false) × Lacks e cs = rw q at p in lacks-first e cs (z .1) n h)
+    (λ q. let z : Lacks e cs = rw q at p in lacks-first e cs z n h)
+lacks-first e ((true ⇒ m) ∷ cs) p n h = split (eqb m e)
+    (λ q. let z : (true ≡ false) × Lacks e cs = rw q at p in clash true refl (z .0))
+    (λ q. eqb-false m e q h)
+
+-- ---- any call
+module _ (T : Tables) (cs : List Check) (done : Outcome) (n : ℕ) (dn : done .reply ≡ Done n) where
+  abbrev r : Reply
+  r = call T cs done .reply
+
+  cases : (P : Reply → Type 0) → (sound T ≡ false → P (no EIO)) → (sound T ≡ true → (first cs ≡ 0 → ⊥) → P (no (first cs))) → (sound T ≡ true → first cs ≡ 0 → P (Done n)) → P r
+  cases P u f d = split (sound T)
+      (λ h. split (eqb (first cs) 0)
+      (λ q. let z = eqb-true (first cs) 0 q in subst P (sym dn ∙ ap (λ (o : Outcome). o .reply) (call-done T cs done (sym h) refl refl z)) (d h z))
+      (λ q. let z = eqb-false (first cs) 0 q in subst P (ap (λ (o : Outcome). o .reply) (call-refused T cs done (sym h) refl refl z)) (f h z)))
+      (λ h. subst P (ap (λ (o : Outcome). o .reply) (call-unsound T cs done (sym h) refl)) (u h))
+
+  call-number : errorOf r ≡ first (not (sound T) ⇒ EIO ∷ cs)
+  unfolding first
+  call-number = cases (λ x. errorOf x ≡ first (not (sound T) ⇒ EIO ∷ cs)) (λ h. rw h refl) (λ h z. rw h refl) (λ h z. rw h (sym z))
+
+  -- without a verdict
+  plain-denied : {A : Type 0} {e : Errno} {l : ℕ} {s : Rights} → r ≡ Denied e l s → A
+  plain-denied {A} {e} {l} {s} = cases (λ x. x ≡ Denied e l s → A)
+      (λ h k. absurd (let z : _≡_ {A = ℕ} 0 1 = cc in omega arith))
+      (λ h m k. absurd (let z : _≡_ {A = ℕ} 0 1 = cc in omega arith))
+      (λ h m k. absurd (let z : _≡_ {A = ℕ} 0 1 = cc in omega arith))
+
+  plain-refused : (v : ℕ) → (EIO ≡ v → ⊥) → Lacks v cs → (v ≡ 0 → ⊥) → {e : Errno} → r ≡ Refused e → e .0 ≡ v → ⊥
+  plain-refused v i p o {e} k q = cases (λ x. x ≡ Refused e → ⊥)
+      (λ h k. i (let z : EIO ≡ e .0 = cc in z ∙ q))
+      (λ h m k. lacks-first v cs p o (let z : first cs ≡ e .0 = cc in z ∙ q))
+      (λ h m k. absurd (let z : _≡_ {A = ℕ} 0 1 = cc in omega arith)) k
+
+  -- ---- with a verdict, of thread t
+  module _ (t : ℕ) (a b : ℕ → ℕ) where
+    abbrev D : List ℕ
+    D = domainOf T t
+
+    named-number : errorOf (named a b D r) ≡ first (not (sound T) ⇒ EIO ∷ cs)
+    named-number = error-named a b D r ∙ call-number
+
+    -- what a named layer tells
+    abbrev Told : Errno → ℕ → Rights → Type 0
+    Told e l s = ((e .0 ≡ EACCES) × Youngest a D l (s .0)) ⊎ ((e .0 ≡ EXDEV) × Youngest b D l (s .0))
+
+    blamed : (v : ℕ) {e : Errno} {l : ℕ} {s : Rights} → cond (eqb v EACCES) (blame EACCES a D) (cond (eqb v EXDEV) (blame EXDEV b D) (no v)) ≡ Denied e l s → Told e l s
+    blamed v {e} {l} {s} k = split (eqb v EACCES)
+        (λ q. let p : blame EACCES a D ≡ Denied e l s = rw q at k in inl (sym (ap errorOf p) ∙ blame-error EACCES a D, blame-youngest EACCES a D p))
+        (λ q. split (eqb v EXDEV)
+        (λ w. let p : blame EXDEV b D ≡ Denied e l s = rw (q, w) at k in inr (sym (ap errorOf p) ∙ blame-error EXDEV b D, blame-youngest EXDEV b D p))
+        (λ w. let p : no v ≡ Denied e l s = rw (q, w) at k in absurd (let z : _≡_ {A = ℕ} 0 1 = cc in omega arith)))
+
+    named-denied : {e : Errno} {l : ℕ} {s : Rights} → named a b D r ≡ Denied e l s → (sound T ≡ true) × ((first cs ≡ EACCES) ⊎ (first cs ≡ EXDEV)) × Told e l s
+    unfolding named
+    named-denied {e} {l} {s} = cases (λ x. named a b D x ≡ Denied e l s → (sound T ≡ true) × ((first cs ≡ EACCES) ⊎ (first cs ≡ EXDEV)) × Told e l s)
+        (λ h k. absurd (let z : _≡_ {A = ℕ} 0 1 = cc in omega arith))
+        (λ h m k. (h, verdict-number k, blamed (first cs) k))
+        (λ h m k. absurd (let z : _≡_ {A = ℕ} 0 1 = cc in omega arith))
+      where
+        verdict-number : cond (eqb (first cs) EACCES) (blame EACCES a D) (cond (eqb (first cs) EXDEV) (blame EXDEV b D) (no (first cs))) ≡ Denied e l s → (first cs ≡ EACCES) ⊎ (first cs ≡ EXDEV)
+        verdict-number k = split (eqb (first cs) EACCES) (λ q. inl (eqb-true (first cs) EACCES q))
+            (λ q. split (eqb (first cs) EXDEV) (λ w. inr (eqb-true (first cs) EXDEV w))
+            (λ w. let p : no (first cs) ≡ Denied e l s = rw (q, w) at k in absurd (let z : _≡_ {A = ℕ} 0 1 = cc in omega arith)))
+
+    -- the verdict's numbers come from layers with a set
+    module _ (na : any (some a) D ≡ false → Lacks EACCES cs) (nb : any (some b) D ≡ false → Lacks EXDEV cs) where
+      named-refused : {e : Errno} → named a b D r ≡ Refused e → (e .0 ≡ EACCES → ⊥) × (e .0 ≡ EXDEV → ⊥)
+      unfolding named
+      named-refused {e} = cases (λ x. named a b D x ≡ Refused e → (e .0 ≡ EACCES → ⊥) × (e .0 ≡ EXDEV → ⊥))
+          (λ h k. let z : EIO ≡ e .0 = cc in ((λ v. absurd (omega arith)), (λ v. absurd (omega arith))))
+          (λ h m k. split (eqb (first cs) EACCES)
+          (λ q. let p : blame EACCES a D ≡ Refused e = rw q at k in absurd (lacks-first EACCES cs (na (blame-none EACCES a D p)) (λ z. omega arith) (eqb-true (first cs) EACCES q)))
+          (λ q. split (eqb (first cs) EXDEV)
+          (λ w. let p : blame EXDEV b D ≡ Refused e = rw (q, w) at k in absurd (lacks-first EXDEV cs (nb (blame-none EXDEV b D p)) (λ z. omega arith) (eqb-true (first cs) EXDEV w)))
+          (λ w.
+          let p : no (first cs) ≡ Refused e = rw (q, w) at k in
+          let z : first cs ≡ e .0 = cc in
+          ((λ v. eqb-false (first cs) EACCES q (z ∙ v)), (λ v. eqb-false (first cs) EXDEV w (z ∙ v))))))
+          (λ h m k. absurd (let z : _≡_ {A = ℕ} 0 1 = cc in omega arith))
+
+    -- the thread is live, so its layers are in use
+    module _ (dead : threadLive (T .threads) t ≡ false → first cs ≡ ESRCH) where
+      told-in : {e : Errno} {l : ℕ} {s : Rights} → Told e l s → elem l D ≡ true
+      told-in (inl p) = youngest-in (p .1)
+      told-in (inr p) = youngest-in (p .1)
+
+      verdict-live : (first cs ≡ EACCES) ⊎ (first cs ≡ EXDEV) → threadLive (T .threads) t ≡ true
+      verdict-live v = split (threadLive (T .threads) t) (λ q. q) (λ q. let d = dead q in either v (λ x. absurd (omega arith)) (λ x. absurd (omega arith)))
+
+      named-below : {e : Errno} {l : ℕ} {s : Rights} → named a b D r ≡ Denied e l s → l < maxLayers
+      named-below {e} {l} k =
+          let p = named-denied k in
+          reached-in-use T (facts T (p .0)) l (t, verdict-live (p .1), told-in (p .2)) .0
+
+-- ---- every call
+number : (T : Tables) (c : Call) → errorOf (reply T c) ≡ first (not (sound T) ⇒ EIO ∷ refusalsOf T c)
+unfolding outcomeOf created createDone closed closeDone pathAdded portAdded addDone restrictCall restrictDone cloned cloneDone endCall endDone privsSet adminSet markDone layerRead accessCall portCall treeCreate treeRemove treeLink treeRename treeExchange refusalsOf
+number T (create-ruleset bs flags) = call-number T (createChecks T bs flags) _ _ refl
+number T (close-ruleset r) = call-number T (closeChecks T r) _ _ refl
+number T (add-path-rule r e rights flags) = call-number T (addPathChecks T r e rights flags) _ _ refl
+number T (add-port-rule r p rights flags) = call-number T (addPortChecks T r p rights flags) _ _ refl
+number T (restrict t r flags) = call-number T (restrictChecks T t r flags) _ _ refl
+number T (layer-rules k) = call-number T (layerChecks T k) _ _ refl
+number T (clone t) = call-number T (cloneChecks T t) _ _ refl
+number T (end-thread t) = call-number T (endChecks T t) _ _ refl
+number T (set-no-new-privs t) = call-number T (markChecks T t) _ _ refl
+number T (set-admin t on) = call-number T (markChecks T t) _ _ refl
+number T (access t e m) = named-number T (accessChecks T t e m) _ _ refl t _ _
+number T (port t p m) = named-number T (portChecks T t p m) _ _ refl t _ _
+number T (create t d k) = named-number T (treeCreateChecks T t d k) _ _ refl t _ _
+number T (remove t e) = named-number T (removeChecks T t e) _ _ refl t _ _
+number T (link t a d) = named-number T (linkChecks T t a d) _ _ refl t _ _
+number T (rename t a d x) = named-number T (renameChecks T t a d x) _ _ refl t _ _
+number T (exchange t a d x) = named-number T (exchangeChecks T t a d x) _ _ refl t _ _
+
+told : (T : Tables) (c : Call) (e : Errno) (l : ℕ) (s : Rights) → reply T c ≡ Denied e l s
+    → ((e .0 ≡ EACCES) × Youngest (deniedBy T c) (domainOf T (caller c)) l (s .0)) ⊎ ((e .0 ≡ EXDEV) × Youngest (crossedBy T c) (domainOf T (caller c)) l (s .0))
+unfolding outcomeOf created createDone closed closeDone pathAdded portAdded addDone restrictCall restrictDone cloned cloneDone endCall endDone privsSet adminSet markDone layerRead accessCall portCall treeCreate treeRemove treeLink treeRename treeExchange deniedBy crossedBy caller
+told T (create-ruleset bs flags) e l s h = plain-denied T (createChecks T bs flags) _ _ refl h
+told T (close-ruleset r) e l s h = plain-denied T (closeChecks T r) _ _ refl h
+told T (add-path-rule r x rights flags) e l s h = plain-denied T (addPathChecks T r x rights flags) _ _ refl h
+told T (add-port-rule r p rights flags) e l s h = plain-denied T (addPortChecks T r p rights flags) _ _ refl h
+told T (restrict t r flags) e l s h = plain-denied T (restrictChecks T t r flags) _ _ refl h
+told T (layer-rules k) e l s h = plain-denied T (layerChecks T k) _ _ refl h
+told T (clone t) e l s h = plain-denied T (cloneChecks T t) _ _ refl h
+told T (end-thread t) e l s h = plain-denied T (endChecks T t) _ _ refl h
+told T (set-no-new-privs t) e l s h = plain-denied T (markChecks T t) _ _ refl h
+told T (set-admin t on) e l s h = plain-denied T (markChecks T t) _ _ refl h
+told T (access t x m) e l s h = named-denied T (accessChecks T t x m) _ _ refl t _ _ h .2
+told T (port t p m) e l s h = named-denied T (portChecks T t p m) _ _ refl t _ _ h .2
+told T (create t d k) e l s h = named-denied T (treeCreateChecks T t d k) _ _ refl t _ _ h .2
+told T (remove t x) e l s h = named-denied T (removeChecks T t x) _ _ refl t _ _ h .2
+told T (link t a d) e l s h = named-denied T (linkChecks T t a d) _ _ refl t _ _ h .2
+told T (rename t a d x) e l s h = named-denied T (renameChecks T t a d x) _ _ refl t _ _ h .2
+told T (exchange t a d x) e l s h = named-denied T (exchangeChecks T t a d x) _ _ refl t _ _ h .2
+
+-- a list without the numbers of a verdict, but for those that fail
+others : (T : Tables) (c : Call) (e : Errno) → reply T c ≡ Refused e → (e .0 ≡ EACCES → ⊥) × (e .0 ≡ EXDEV → ⊥)
+unfolding outcomeOf created createDone closed closeDone pathAdded portAdded addDone restrictCall restrictDone cloned cloneDone endCall endDone privsSet adminSet markDone layerRead accessCall portCall treeCreate treeRemove treeLink treeRename treeExchange createChecks createForm createMasks closeChecks addPathChecks addPortChecks addForm pathForm rulePortForm restrictChecks restrictForm restrictRoom layerChecks cloneChecks endChecks markChecks
+    accessChecks accessNames accessMask lacks layerLacks portChecks portForm portLacks layerPortLacks
+    treeCreateChecks createShape createVerdict createLater removeChecks removeShape removeVerdict removeLater
+    linkChecks linkShape linkVerdict linkLater renameChecks renameNames renameShape renameVerdict renameLater exchangeChecks exchangeNames exchangeShape exchangeVerdict verdict layerDenies
+others T (create-ruleset bs flags) e h = (plain-refused T (createChecks T bs flags) _ _ refl EACCES (λ z. omega arith) tt (λ z. omega arith) h, plain-refused T (createChecks T bs flags) _ _ refl EXDEV (λ z. omega arith) tt (λ z. omega arith) h)
+others T (close-ruleset r) e h = (plain-refused T (closeChecks T r) _ _ refl EACCES (λ z. omega arith) tt (λ z. omega arith) h, plain-refused T (closeChecks T r) _ _ refl EXDEV (λ z. omega arith) tt (λ z. omega arith) h)
+others T (add-path-rule r x rights flags) e h = (plain-refused T (addPathChecks T r x rights flags) _ _ refl EACCES (λ z. omega arith) tt (λ z. omega arith) h, plain-refused T (addPathChecks T r x rights flags) _ _ refl EXDEV (λ z. omega arith) tt (λ z. omega arith) h)
+others T (add-port-rule r p rights flags) e h = (plain-refused T (addPortChecks T r p rights flags) _ _ refl EACCES (λ z. omega arith) tt (λ z. omega arith) h, plain-refused T (addPortChecks T r p rights flags) _ _ refl EXDEV (λ z. omega arith) tt (λ z. omega arith) h)
+others T (restrict t r flags) e h = (plain-refused T (restrictChecks T t r flags) _ _ refl EACCES (λ z. omega arith) tt (λ z. omega arith) h, plain-refused T (restrictChecks T t r flags) _ _ refl EXDEV (λ z. omega arith) tt (λ z. omega arith) h)
+others T (layer-rules k) e h = (plain-refused T (layerChecks T k) _ _ refl EACCES (λ z. omega arith) tt (λ z. omega arith) h, plain-refused T (layerChecks T k) _ _ refl EXDEV (λ z. omega arith) tt (λ z. omega arith) h)
+others T (clone t) e h = (plain-refused T (cloneChecks T t) _ _ refl EACCES (λ z. omega arith) tt (λ z. omega arith) h, plain-refused T (cloneChecks T t) _ _ refl EXDEV (λ z. omega arith) tt (λ z. omega arith) h)
+others T (end-thread t) e h = (plain-refused T (endChecks T t) _ _ refl EACCES (λ z. omega arith) tt (λ z. omega arith) h, plain-refused T (endChecks T t) _ _ refl EXDEV (λ z. omega arith) tt (λ z. omega arith) h)
+others T (set-no-new-privs t) e h = (plain-refused T (markChecks T t) _ _ refl EACCES (λ z. omega arith) tt (λ z. omega arith) h, plain-refused T (markChecks T t) _ _ refl EXDEV (λ z. omega arith) tt (λ z. omega arith) h)
+others T (set-admin t on) e h = (plain-refused T (markChecks T t) _ _ refl EACCES (λ z. omega arith) tt (λ z. omega arith) h, plain-refused T (markChecks T t) _ _ refl EXDEV (λ z. omega arith) tt (λ z. omega arith) h)
+others T (access t x m) e h = named-refused T (accessChecks T t x m) _ _ refl t _ _ (λ q. (q, tt)) (λ q. tt) h
+others T (port t p m) e h = named-refused T (portChecks T t p m) _ _ refl t _ _ (λ q. (q, tt)) (λ q. tt) h
+others T (create t d k) e h = named-refused T (treeCreateChecks T t d k) _ _ refl t _ _ (λ q. (q, tt)) (λ q. tt) h
+others T (remove t x) e h = named-refused T (removeChecks T t x) _ _ refl t _ _ (λ q. (q, tt)) (λ q. tt) h
+others T (link t a d) e h = named-refused T (linkChecks T t a d) _ _ refl t _ _ (λ q. (q, tt)) (λ q. (sym (crosses-any T (linkMove (T .entries) a d) (domainOf T t)) ∙ q, tt)) h
+others T (rename t a d x) e h = named-refused T (renameChecks T t a d x) _ _ refl t _ _ (λ q. (q, tt)) (λ q. (sym (crosses-any T (renameMove (T .entries) a d x) (domainOf T t)) ∙ q, tt)) h
+others T (exchange t a d x) e h = named-refused T (exchangeChecks T t a d x) _ _ refl t _ _ (λ q. (q, tt)) (λ q. (sym (crosses-any T (exchangeMove (T .entries) a d x) (domainOf T t)) ∙ q, tt)) h
+
+below : (T : Tables) (c : Call) (e : Errno) (l : ℕ) (s : Rights) → reply T c ≡ Denied e l s → l < maxLayers
+unfolding outcomeOf created createDone closed closeDone pathAdded portAdded addDone restrictCall restrictDone cloned cloneDone endCall endDone privsSet adminSet markDone layerRead accessCall portCall treeCreate treeRemove treeLink treeRename treeExchange first accessChecks accessNames portChecks portForm
+    treeCreateChecks createShape removeChecks removeShape linkChecks linkShape renameChecks renameNames exchangeChecks exchangeNames
+below T (create-ruleset bs flags) e l s h = plain-denied T (createChecks T bs flags) _ _ refl h
+below T (close-ruleset r) e l s h = plain-denied T (closeChecks T r) _ _ refl h
+below T (add-path-rule r x rights flags) e l s h = plain-denied T (addPathChecks T r x rights flags) _ _ refl h
+below T (add-port-rule r p rights flags) e l s h = plain-denied T (addPortChecks T r p rights flags) _ _ refl h
+below T (restrict t r flags) e l s h = plain-denied T (restrictChecks T t r flags) _ _ refl h
+below T (layer-rules k) e l s h = plain-denied T (layerChecks T k) _ _ refl h
+below T (clone t) e l s h = plain-denied T (cloneChecks T t) _ _ refl h
+below T (end-thread t) e l s h = plain-denied T (endChecks T t) _ _ refl h
+below T (set-no-new-privs t) e l s h = plain-denied T (markChecks T t) _ _ refl h
+below T (set-admin t on) e l s h = plain-denied T (markChecks T t) _ _ refl h
+below T (access t x m) e l s h = named-below T (accessChecks T t x m) _ _ refl t _ _ (λ q. rw q refl) h
+below T (port t p m) e l s h = named-below T (portChecks T t p m) _ _ refl t _ _ (λ q. rw q refl) h
+below T (create t d k) e l s h = named-below T (treeCreateChecks T t d k) _ _ refl t _ _ (λ q. rw q refl) h
+below T (remove t x) e l s h = named-below T (removeChecks T t x) _ _ refl t _ _ (λ q. rw q refl) h
+below T (link t a d) e l s h = named-below T (linkChecks T t a d) _ _ refl t _ _ (λ q. rw q refl) h
+below T (rename t a d x) e l s h = named-below T (renameChecks T t a d x) _ _ refl t _ _ (λ q. rw q refl) h
+below T (exchange t a d x) e l s h = named-below T (exchangeChecks T t a d x) _ _ refl t _ _ (λ q. rw q refl) h
+
+-- ---- where the sets lie
+none-within : (m : ℕ) → within 0 m ≡ true
+none-within m = has-within 0 m (λ i h. clash (has 0 i) h (has-none i))
+
+missing-within : (es : List ℕ) (L : Layer) (e m : ℕ) → within (missing es L e m) m ≡ true
+missing-within es L e m = has-within (missing es L e m) m (λ i h. and-l (has m i) _ (sym (has-missing es L e m i) ∙ h))
+
+port-within : (L : Layer) (p m : ℕ) → within (portMissing L p m) m ≡ true
+port-within L p m = has-within (portMissing L p m) m (λ i h. and-l (has m i) _ (sym (has-port-missing L p m i) ∙ h))
+
+-- of two sets joined, each in its part of a join
+join-within : (a b c d : ℕ) → within a c ≡ true → within b d ≡ true → within (join a b) (join c d) ≡ true
+join-within a b c d p q = has-within (join a b) (join c d) (λ i h.
+    has-join c d i ∙ either (or-cases (has a i) (has b i) (sym (has-join a b i) ∙ h))
+    (λ x. or-left (has c i) (has d i) (within-has a c i p x))
+    (λ x. or-right (has c i) (has d i) (within-has b d i q x)))
+
+without-join : (a b c : ℕ) → join (without a c) (without b c) ≡ without (join a b) c
+without-join a b c = ext-has (join (without a c) (without b c)) (without (join a b) c) (λ i.
+    has-join (without a c) (without b c) i
+    ∙ ap₂ _||_ (has-without a c i) (has-without b c i)
+    ∙ both-less (has a i) (has b i) (not (has c i))
+    ∙ sym (has-without (join a b) c i ∙ ap (λ (x : Bool). x && not (has c i)) (has-join a b i)))
+  where
+    both-less : (x y z : Bool) → ((x && z) || (y && z)) ≡ ((x || y) && z)
+    both-less true true true = refl
+    both-less true true false = refl
+    both-less true false true = refl
+    both-less true false false = refl
+    both-less false true z = refl
+    both-less false false z = refl
+
+module _ (es : List ℕ) (L : Layer) (m : Move) where
+  needs-within : within (deniedNeeds es L m) (without (join (m .leave .0) (m .enter .0)) REFER) ≡ true
+  unfolding deniedNeeds
+  needs-within = rw (← without-join (m .leave .0) (m .enter .0) REFER)
+      (join-within _ _ (without (m .leave .0) REFER) (without (m .enter .0) REFER) (missing-within es L (m .source) (without (m .leave .0) REFER)) (missing-within es L (m .target) (without (m .enter .0) REFER)))
+
+  uncontained-within : (p1 p2 o rights : ℕ) → within (uncontained es L p1 p2 o rights) rights ≡ true
+  unfolding uncontained
+  uncontained-within p1 p2 o rights = has-within (uncontained es L p1 p2 o rights) rights (λ i h.
+      let x = missing es L p1 rights in
+      let y = rightsOn (L .rules) pathRule o in
+      let u = and-l (has (without x y) i) _ (sym (has-without (without x y) (denied es L p2) i) ∙ h) in
+      within-has x rights i (missing-within es L p1 rights) (and-l (has x i) _ (sym (has-without x y i) ∙ u)))
+
+  crossed-within : (crossed es L m ≡ REFER) ⊎ (within (crossed es L m) (join (m .rights .0) (m .back .0)) ≡ true)
+  unfolding crossed escaping
+  crossed-within = split (eqb (m .source) (m .target))
+      (λ q. inr (rw q (none-within (join (m .rights .0) (m .back .0)))))
+      (λ q. split (eqb (deniedRefer es L m) 0)
+      (λ z. inr (rw (q, z) (join-within _ _ (m .rights .0) (m .back .0) (uncontained-within (m .source) (m .target) (m .object) (m .rights .0)) (uncontained-within (m .target) (m .source) (m .other) (m .back .0)))))
+      (λ z. inl (rw (q, z) refl)))
+
+asked : (T : Tables) (c : Call) (l : ℕ) → within (deniedBy T c l) (askedBy T c) ≡ true
+unfolding deniedBy askedBy
+asked T (create-ruleset bs flags) l = none-within 0
+asked T (close-ruleset r) l = none-within 0
+asked T (add-path-rule r e rights flags) l = none-within 0
+asked T (add-port-rule r p rights flags) l = none-within 0
+asked T (restrict t r flags) l = none-within 0
+asked T (layer-rules k) l = none-within 0
+asked T (clone t) l = none-within 0
+asked T (end-thread t) l = none-within 0
+asked T (set-no-new-privs t) l = none-within 0
+asked T (set-admin t on) l = none-within 0
+asked T (access t e m) l = missing-within (T .entries) (layerAt (T .layers) (T .pool) l) e m
+asked T (port t p m) l = port-within (layerAt (T .layers) (T .pool) l) p m
+asked T (create t d k) l = missing-within (T .entries) (layerAt (T .layers) (T .pool) l) d (makeOf (kindOf k))
+asked T (remove t e) l = missing-within (T .entries) (layerAt (T .layers) (T .pool) l) (parent (T .entries) e) (removeOf (kindOf (kind (T .entries) e)))
+asked T (link t s d) l = needs-within (T .entries) (layerAt (T .layers) (T .pool) l) (linkMove (T .entries) s d)
+asked T (rename t s d x) l = needs-within (T .entries) (layerAt (T .layers) (T .pool) l) (renameMove (T .entries) s d x)
+asked T (exchange t s d x) l = needs-within (T .entries) (layerAt (T .layers) (T .pool) l) (exchangeMove (T .entries) s d x)
+
+moved : (T : Tables) (c : Call) (l : ℕ) → (crossedBy T c l ≡ REFER) ⊎ (within (crossedBy T c l) (movedBy T c) ≡ true)
+unfolding crossedBy movedBy
+moved T (create-ruleset bs flags) l = inr (none-within 0)
+moved T (close-ruleset r) l = inr (none-within 0)
+moved T (add-path-rule r e rights flags) l = inr (none-within 0)
+moved T (add-port-rule r p rights flags) l = inr (none-within 0)
+moved T (restrict t r flags) l = inr (none-within 0)
+moved T (layer-rules k) l = inr (none-within 0)
+moved T (clone t) l = inr (none-within 0)
+moved T (end-thread t) l = inr (none-within 0)
+moved T (set-no-new-privs t) l = inr (none-within 0)
+moved T (set-admin t on) l = inr (none-within 0)
+moved T (access t e m) l = inr (none-within 0)
+moved T (port t p m) l = inr (none-within 0)
+moved T (create t d k) l = inr (none-within 0)
+moved T (remove t e) l = inr (none-within 0)
+moved T (link t s d) l = crossed-within (T .entries) (layerAt (T .layers) (T .pool) l) (linkMove (T .entries) s d)
+moved T (rename t s d x) l = crossed-within (T .entries) (layerAt (T .layers) (T .pool) l) (renameMove (T .entries) s d x)
+moved T (exchange t s d x) l = crossed-within (T .entries) (layerAt (T .layers) (T .pool) l) (exchangeMove (T .entries) s d x)
+
+pub layer-named : LayerNamed
+layer-named = record { number = number; denied = told; others = others; below = below; asked = asked; moved = moved }
