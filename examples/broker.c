@@ -3,9 +3,9 @@
  *
  *     broker DIRECTORY    the directory is made, and removed again
  *
- * It prints each request with its answer, and who refused: the broker itself, the core (that is, the library) or the system. In
- * earnest a plug-in is a program of its own, run by a user who cannot open the broker's files; here it is a list of requests that
- * a forked process makes.
+ * It prints each request with its answer, and who refused: the broker itself, the core (that is, the library; with the layer and
+ * the rights that it denies, if it was a layer) or the system. In earnest a plug-in is a program of its own, run by a user who
+ * cannot open the broker's files; here it is a list of requests that a forked process makes.
  */
 #define _POSIX_C_SOURCE 200809L
 
@@ -35,10 +35,11 @@ static const char *const operation_names[] = { "read", "write", "create", "mkdir
 #define MAY_WORK (MAY_MOVE | SKEIN_FS_WRITE_FILE | SKEIN_FS_TRUNCATE | SKEIN_FS_MAKE_DIR | SKEIN_FS_REMOVE_DIR)
 #define DIRECTORY_FLAGS (O_RDONLY | O_DIRECTORY | O_NOFOLLOW | O_CLOEXEC)
 
-/* A reply and who refused, which only the log tells. */
+/* A reply, and who refused: only the log tells that, and which layer and rights if it was one. */
 struct answer {
 	struct reply reply;
 	const char *by;
+	struct skein_report report;
 };
 
 struct plugin {
@@ -83,17 +84,20 @@ static uint64_t must(const char *what, int64_t answer)
 
 static struct answer answered(int error, const char *by)
 {
-	const struct answer answer = { { error, "" }, by };
+	const struct answer answer = { { error, "" }, by, { 0, 0 } };
 
 	return answer;
 }
 
 /* After EIO nothing can be answered any more: something else has written the tables. */
-static struct answer refused_by_core(int64_t answer)
+static struct answer refused_by_core(int64_t verdict, const struct skein_report *report)
 {
-	if (answer == -SKEIN_EIO)
+	struct answer answer = answered((int)-verdict, "core");
+
+	if (verdict == -SKEIN_EIO)
 		die("tables damaged", EIO);
-	return answered((int)-answer, "core");
+	answer.report = *report;
+	return answer;
 }
 
 static uint64_t kind_of(const struct skein_tables *t, uint64_t entry)
@@ -204,7 +208,7 @@ static void take_file(int from, uint64_t directory, const char *name)
 		kind = SKEIN_KIND_SYMLINK;
 	if (kind == 0 || strlen(name) >= NAME_SIZE)
 		die(name, EINVAL);
-	entry = must(name, skeinrabbit_create(&tables, SKEIN_FIRST_THREAD, directory, kind));
+	entry = must(name, skeinrabbit_create(&tables, SKEIN_FIRST_THREAD, directory, kind, NULL));
 	snprintf(names[entry], NAME_SIZE, "%s", name);
 	if (kind == SKEIN_KIND_DIRECTORY)
 		scan(entry);
@@ -235,13 +239,14 @@ static struct answer use_file(uint64_t thread, const struct request *request, co
 {
 	const int writes = request->operation == WRITE;
 	const uint64_t rights = writes ? SKEIN_FS_WRITE_FILE | SKEIN_FS_TRUNCATE : SKEIN_FS_READ_FILE;
-	const int64_t verdict = skeinrabbit_access(&tables, thread, place->entry, rights);
+	struct skein_report report;
+	const int64_t verdict = skeinrabbit_access(&tables, thread, place->entry, rights, &report);
 	struct answer answer = answered(0, "system");
 	int directory, file;
 	ssize_t done = -1;
 
 	if (verdict < 0)
-		return refused_by_core(verdict);
+		return refused_by_core(verdict, &report);
 	if (kind_of(&tables, place->entry) != SKEIN_KIND_REGULAR)
 		return answered(kind_of(&tables, place->entry) == SKEIN_KIND_SYMLINK ? ELOOP : EINVAL, "broker");
 	directory = open_directory(place->directory);
@@ -255,17 +260,18 @@ static struct answer use_file(uint64_t thread, const struct request *request, co
 	return answer;
 }
 
-static int64_t change_tables(uint64_t thread, uint32_t operation, const struct place *from, const struct place *to)
+static int64_t change_tables(uint64_t thread, uint32_t operation, const struct place *from, const struct place *to,
+			     struct skein_report *report)
 {
 	switch (operation) {
 	case CREATE:
-		return skeinrabbit_create(&tables, thread, to->directory, SKEIN_KIND_REGULAR);
+		return skeinrabbit_create(&tables, thread, to->directory, SKEIN_KIND_REGULAR, report);
 	case MKDIR:
-		return skeinrabbit_create(&tables, thread, to->directory, SKEIN_KIND_DIRECTORY);
+		return skeinrabbit_create(&tables, thread, to->directory, SKEIN_KIND_DIRECTORY, report);
 	case REMOVE:
-		return skeinrabbit_remove(&tables, thread, from->entry);
+		return skeinrabbit_remove(&tables, thread, from->entry, report);
 	default:
-		return skeinrabbit_rename(&tables, thread, from->entry, to->directory, to->entry != NONE, to->entry);
+		return skeinrabbit_rename(&tables, thread, from->entry, to->directory, to->entry != NONE, to->entry, report);
 	}
 }
 
@@ -299,13 +305,14 @@ static int change_files(uint32_t operation, const struct place *from, const stru
 /* The core first, on the tables; then the file system; and if that fails, the tables as they were. */
 static struct answer change_tree(uint64_t thread, uint32_t operation, const struct place *from, const struct place *to)
 {
+	struct skein_report report;
 	int64_t verdict;
 	int error;
 
 	before = tables;
-	verdict = change_tables(thread, operation, from, to);
+	verdict = change_tables(thread, operation, from, to, &report);
 	if (verdict < 0)
-		return refused_by_core(verdict);
+		return refused_by_core(verdict, &report);
 	error = change_files(operation, from, to);
 	if (error != 0) {
 		tables = before;
@@ -356,6 +363,25 @@ static const char *error_name(int error)
 	return strerror(error);
 }
 
+/* The layer that refused, if one did, and the rights that it denies. */
+static void log_layer(const struct skein_report *report)
+{
+	static const char *const right_names[] = { "execute",	"write_file", "read_file", "read_dir",	 "remove_dir", "remove_file",
+						   "make_char", "make_dir",   "make_reg",  "make_sock",	 "make_fifo",  "make_block",
+						   "make_sym",	"refer",      "truncate",  "ioctl_dev" };
+	const char *before_name = ", ";
+
+	if (report->layer == 0)
+		return;
+	printf(": layer %u", (unsigned)(report->layer - 1));
+	for (size_t bit = 0; bit < sizeof(right_names) / sizeof(right_names[0]); bit++) {
+		if ((report->rights >> bit & 1) != 0) {
+			printf("%s%s", before_name, right_names[bit]);
+			before_name = "+";
+		}
+	}
+}
+
 /* What a plug-in sent may be any bytes: only printable ones go into the log. */
 static void log_request(const struct plugin *plugin, const struct request *request, const struct answer *answer)
 {
@@ -367,8 +393,11 @@ static void log_request(const struct plugin *plugin, const struct request *reque
 	for (char *c = paths; *c != '\0'; c++)
 		*c = isprint((unsigned char)*c) ? *c : '?';
 	printf("%s  %-6s  %-31s  %s", plugin->name, operation_names[operation], paths, error_name(answer->reply.error));
-	if (answer->reply.error != 0)
-		printf(" (%s)", answer->by);
+	if (answer->reply.error != 0) {
+		printf(" (%s", answer->by);
+		log_layer(&answer->report);
+		putchar(')');
+	}
 	putchar('\n');
 }
 

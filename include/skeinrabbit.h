@@ -8,10 +8,13 @@
  * number. Each comment below lists a call's refusals in the order in which they are tested. Before all of them, every call but
  * skeinrabbit_fresh answers -EIO if the tables are not sound. A number out of range counts as not live or not open.
  *
+ * Requests and changes of the tree have a last argument `report`, which may be NULL. It is written with every answer: where a
+ * layer refuses (EACCES, EXDEV) it says which layer and which rights, and it is zeros with every other answer.
+ *
  * Any cells and any numbers are answered. A call is defined if
  * - every pointer is valid for what it points to (a whole struct skein_tables, `size` bytes), aligned for its type and not NULL.
- *   Only an attribute may be NULL, and counts as no bytes then, whatever its size;
- * - none of these overlap: the tables, the attribute, and the two places where skeinrabbit_layer_rules reports;
+ *   Only an attribute may be NULL, and counts as no bytes then, whatever its size, and a report;
+ * - none of these overlap: the tables, the attribute, a report, and the two places where skeinrabbit_layer_rules reports;
  * - 96 KiB of stack are left (docs/PERFORMANCE.md), which a thread or coroutine with a small stack may not have;
  * - no other call on the same tables runs meanwhile, from a thread or from a signal handler. Calls on other tables may;
  * - the program is for x86-64 Linux, as the archive is.
@@ -156,12 +159,29 @@ struct skein_ruleset_attr {
 };
 
 /*
+ * What a request or a change of the tree says beside its answer. With EACCES and EXDEV it names the youngest layer of the thread's
+ * domain that refuses, and why:
+ * - EACCES of a request: those of the rights asked for that the layer denies;
+ * - EACCES of a change: those of the rights needed that it denies, at both directories, without REFER;
+ * - EXDEV: REFER if the layer denies it at one of the directories, otherwise the rights that what is moved would gain.
+ * With every other answer it is zeros.
+ */
+struct skein_report {
+	uint64_t layer;	 /* its number + 1 (0: none) */
+	uint64_t rights; /* SKEIN_NET_ rights for a port, else SKEIN_FS_ rights */
+};
+
+/* Cells of a report, in the order of the struct. */
+#define SKEIN_REPORT_CELLS 2
+
+/*
  * The functions of the archive: each table as pointer and number of cells, then the arguments. The result is the success number,
  * or 2^64 minus the error number. Prefer the inline functions further down.
  *
- * The calls that only ask take tables that are const.
+ * The calls that only ask take tables that are const. A `report` may have any number of cells: those that fit are written, and
+ * cells past them stay as they were.
  * Each pointer must be aligned (cells to 8 bytes) and valid for its length, and not NULL even if the length is 0. The tables, the
- * attribute and the report `part` of skein_layer_rules must not overlap.
+ * attribute, a report and the report `part` of skein_layer_rules must not overlap.
  */
 #define SKEIN_TABLE_PARAMETERS(cell) \
 	cell *system_cells, size_t system_length, cell *entries, size_t entries_length, cell *rulesets, \
@@ -179,14 +199,19 @@ extern uint64_t skein_clone(SKEIN_TABLE_PARAMETERS(uint64_t), uint64_t thread);
 extern uint64_t skein_end(SKEIN_TABLE_PARAMETERS(uint64_t), uint64_t thread);
 extern uint64_t skein_set_no_new_privs(SKEIN_TABLE_PARAMETERS(uint64_t), uint64_t thread);
 extern uint64_t skein_set_admin(SKEIN_TABLE_PARAMETERS(uint64_t), uint64_t thread, uint64_t on);
-extern uint64_t skein_access(SKEIN_TABLE_PARAMETERS(const uint64_t), uint64_t thread, uint64_t entry, uint64_t rights);
-extern uint64_t skein_port(SKEIN_TABLE_PARAMETERS(const uint64_t), uint64_t thread, uint64_t port, uint64_t rights);
-extern uint64_t skein_create(SKEIN_TABLE_PARAMETERS(uint64_t), uint64_t thread, uint64_t directory, uint64_t kind);
-extern uint64_t skein_remove(SKEIN_TABLE_PARAMETERS(uint64_t), uint64_t thread, uint64_t entry);
-extern uint64_t skein_link(SKEIN_TABLE_PARAMETERS(uint64_t), uint64_t thread, uint64_t source, uint64_t directory);
+extern uint64_t skein_access(SKEIN_TABLE_PARAMETERS(const uint64_t), uint64_t thread, uint64_t entry, uint64_t rights, uint64_t *report,
+			     size_t report_length);
+extern uint64_t skein_port(SKEIN_TABLE_PARAMETERS(const uint64_t), uint64_t thread, uint64_t port, uint64_t rights, uint64_t *report,
+			   size_t report_length);
+extern uint64_t skein_create(SKEIN_TABLE_PARAMETERS(uint64_t), uint64_t thread, uint64_t directory, uint64_t kind, uint64_t *report,
+			     size_t report_length);
+extern uint64_t skein_remove(SKEIN_TABLE_PARAMETERS(uint64_t), uint64_t thread, uint64_t entry, uint64_t *report, size_t report_length);
+extern uint64_t skein_link(SKEIN_TABLE_PARAMETERS(uint64_t), uint64_t thread, uint64_t source, uint64_t directory, uint64_t *report,
+			   size_t report_length);
 extern uint64_t skein_rename(SKEIN_TABLE_PARAMETERS(uint64_t), uint64_t thread, uint64_t source, uint64_t directory, uint64_t replaces,
-			     uint64_t entry);
-extern uint64_t skein_exchange(SKEIN_TABLE_PARAMETERS(uint64_t), uint64_t thread, uint64_t source, uint64_t directory, uint64_t entry);
+			     uint64_t entry, uint64_t *report, size_t report_length);
+extern uint64_t skein_exchange(SKEIN_TABLE_PARAMETERS(uint64_t), uint64_t thread, uint64_t source, uint64_t directory, uint64_t entry,
+			       uint64_t *report, size_t report_length);
 
 /* The tables of a struct as the arguments of an archive's function. */
 #define SKEIN_TABLE_ARGUMENTS(t) \
@@ -201,6 +226,16 @@ static inline int64_t skeinrabbit_answer(uint64_t result)
 	if (result > (uint64_t)INT64_MAX)
 		return -(int64_t)(UINT64_MAX - result) - 1;
 	return (int64_t)result;
+}
+
+/* The answer, with the cells of a report for a caller that wants them. */
+static inline int64_t skeinrabbit_reported(uint64_t result, const uint64_t *cells, struct skein_report *report)
+{
+	if (report != NULL) {
+		report->layer = cells[0];
+		report->rights = cells[1];
+	}
+	return skeinrabbit_answer(result);
 }
 
 /*
@@ -324,18 +359,26 @@ static inline int64_t skeinrabbit_set_admin(struct skein_tables *t, uint64_t thr
  * ESRCH thread not live; ENOENT entry not live; EINVAL rights empty, a bit above 15, or a bit outside the file set for an entry
  * that is no directory; EACCES a right not granted.
  */
-static inline int64_t skeinrabbit_access(const struct skein_tables *t, uint64_t thread, uint64_t entry, uint64_t rights)
+static inline int64_t skeinrabbit_access(const struct skein_tables *t, uint64_t thread, uint64_t entry, uint64_t rights,
+					 struct skein_report *report)
 {
-	return skeinrabbit_answer(skein_access(SKEIN_TABLE_ARGUMENTS(t), thread, entry, rights));
+	uint64_t cells[SKEIN_REPORT_CELLS] = { 0 };
+	const uint64_t result = skein_access(SKEIN_TABLE_ARGUMENTS(t), thread, entry, rights, cells, SKEIN_REPORT_CELLS);
+
+	return skeinrabbit_reported(result, cells, report);
 }
 
 /*
  * Asks whether a thread may use a TCP port with all of the rights.
  * ESRCH thread not live; EINVAL port above 65,535; EINVAL rights empty or a bit above 1; EACCES a right not granted.
  */
-static inline int64_t skeinrabbit_port(const struct skein_tables *t, uint64_t thread, uint64_t port, uint64_t rights)
+static inline int64_t skeinrabbit_port(const struct skein_tables *t, uint64_t thread, uint64_t port, uint64_t rights,
+				       struct skein_report *report)
 {
-	return skeinrabbit_answer(skein_port(SKEIN_TABLE_ARGUMENTS(t), thread, port, rights));
+	uint64_t cells[SKEIN_REPORT_CELLS] = { 0 };
+	const uint64_t result = skein_port(SKEIN_TABLE_ARGUMENTS(t), thread, port, rights, cells, SKEIN_REPORT_CELLS);
+
+	return skeinrabbit_reported(result, cells, report);
 }
 
 /*
@@ -343,9 +386,13 @@ static inline int64_t skeinrabbit_port(const struct skein_tables *t, uint64_t th
  * ESRCH thread not live; ENOENT directory not live; ENOTDIR it is no directory; EINVAL unknown kind; EACCES MAKE of the kind
  * denied; ENOSPC no free entry or no object number left.
  */
-static inline int64_t skeinrabbit_create(struct skein_tables *t, uint64_t thread, uint64_t directory, uint64_t kind)
+static inline int64_t skeinrabbit_create(struct skein_tables *t, uint64_t thread, uint64_t directory, uint64_t kind,
+					 struct skein_report *report)
 {
-	return skeinrabbit_answer(skein_create(SKEIN_TABLE_ARGUMENTS(t), thread, directory, kind));
+	uint64_t cells[SKEIN_REPORT_CELLS] = { 0 };
+	const uint64_t result = skein_create(SKEIN_TABLE_ARGUMENTS(t), thread, directory, kind, cells, SKEIN_REPORT_CELLS);
+
+	return skeinrabbit_reported(result, cells, report);
 }
 
 /*
@@ -353,9 +400,12 @@ static inline int64_t skeinrabbit_create(struct skein_tables *t, uint64_t thread
  * ESRCH thread not live; ENOENT entry not live; EBUSY it is the root; EACCES REMOVE of its kind denied at its parent;
  * ENOTEMPTY a directory with entries.
  */
-static inline int64_t skeinrabbit_remove(struct skein_tables *t, uint64_t thread, uint64_t entry)
+static inline int64_t skeinrabbit_remove(struct skein_tables *t, uint64_t thread, uint64_t entry, struct skein_report *report)
 {
-	return skeinrabbit_answer(skein_remove(SKEIN_TABLE_ARGUMENTS(t), thread, entry));
+	uint64_t cells[SKEIN_REPORT_CELLS] = { 0 };
+	const uint64_t result = skein_remove(SKEIN_TABLE_ARGUMENTS(t), thread, entry, cells, SKEIN_REPORT_CELLS);
+
+	return skeinrabbit_reported(result, cells, report);
 }
 
 /*
@@ -363,9 +413,13 @@ static inline int64_t skeinrabbit_remove(struct skein_tables *t, uint64_t thread
  * ESRCH thread not live; ENOENT source or directory not live; EBUSY source is the root; ENOTDIR target is no directory; EPERM
  * source is a directory; EACCES MAKE denied; EXDEV REFER denied, or the link would gain a right; ENOSPC no free entry.
  */
-static inline int64_t skeinrabbit_link(struct skein_tables *t, uint64_t thread, uint64_t source, uint64_t directory)
+static inline int64_t skeinrabbit_link(struct skein_tables *t, uint64_t thread, uint64_t source, uint64_t directory,
+				       struct skein_report *report)
 {
-	return skeinrabbit_answer(skein_link(SKEIN_TABLE_ARGUMENTS(t), thread, source, directory));
+	uint64_t cells[SKEIN_REPORT_CELLS] = { 0 };
+	const uint64_t result = skein_link(SKEIN_TABLE_ARGUMENTS(t), thread, source, directory, cells, SKEIN_REPORT_CELLS);
+
+	return skeinrabbit_reported(result, cells, report);
 }
 
 /*
@@ -376,9 +430,12 @@ static inline int64_t skeinrabbit_link(struct skein_tables *t, uint64_t thread, 
  * ENOTDIR a directory over another kind; EISDIR the reverse; ENOTEMPTY replaced directory with entries.
  */
 static inline int64_t skeinrabbit_rename(struct skein_tables *t, uint64_t thread, uint64_t source, uint64_t directory,
-					 uint64_t replaces, uint64_t entry)
+					 uint64_t replaces, uint64_t entry, struct skein_report *report)
 {
-	return skeinrabbit_answer(skein_rename(SKEIN_TABLE_ARGUMENTS(t), thread, source, directory, replaces, entry));
+	uint64_t cells[SKEIN_REPORT_CELLS] = { 0 };
+	const uint64_t result = skein_rename(SKEIN_TABLE_ARGUMENTS(t), thread, source, directory, replaces, entry, cells, SKEIN_REPORT_CELLS);
+
+	return skeinrabbit_reported(result, cells, report);
 }
 
 /*
@@ -389,9 +446,12 @@ static inline int64_t skeinrabbit_rename(struct skein_tables *t, uint64_t thread
  * Both the same object: 0, nothing changes.
  */
 static inline int64_t skeinrabbit_exchange(struct skein_tables *t, uint64_t thread, uint64_t source, uint64_t directory,
-					   uint64_t entry)
+					   uint64_t entry, struct skein_report *report)
 {
-	return skeinrabbit_answer(skein_exchange(SKEIN_TABLE_ARGUMENTS(t), thread, source, directory, entry));
+	uint64_t cells[SKEIN_REPORT_CELLS] = { 0 };
+	const uint64_t result = skein_exchange(SKEIN_TABLE_ARGUMENTS(t), thread, source, directory, entry, cells, SKEIN_REPORT_CELLS);
+
+	return skeinrabbit_reported(result, cells, report);
 }
 
 #ifdef __cplusplus

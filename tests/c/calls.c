@@ -6,6 +6,9 @@
 
 #include "skeinrabbit.h"
 
+/* What the worked layers of document 01 handle. */
+#define WORKED (SKEIN_FS_WRITE_FILE | SKEIN_FS_READ_FILE | SKEIN_FS_REMOVE_FILE | SKEIN_FS_MAKE_REG | SKEIN_FS_REFER)
+
 int64_t request_from_other_file(struct skein_tables *t, uint64_t entry, uint64_t rights);
 
 static struct skein_tables tables;
@@ -60,26 +63,26 @@ static void domain_calls(struct skein_tables *t)
 
 static void requests(struct skein_tables *t)
 {
-	expect("access", skeinrabbit_access(t, 1, 2, SKEIN_FS_READ_FILE), 0);
-	expect("access, denied", skeinrabbit_access(t, 1, SKEIN_ROOT, SKEIN_FS_READ_FILE), -SKEIN_EACCES);
+	expect("access", skeinrabbit_access(t, 1, 2, SKEIN_FS_READ_FILE, NULL), 0);
+	expect("access, denied", skeinrabbit_access(t, 1, SKEIN_ROOT, SKEIN_FS_READ_FILE, NULL), -SKEIN_EACCES);
 	expect("access from the other file", request_from_other_file(t, 2, SKEIN_FS_READ_FILE), 0);
 	expect("access from the other file, denied", request_from_other_file(t, 3, SKEIN_FS_READ_FILE), -SKEIN_EACCES);
-	expect("port", skeinrabbit_port(t, 1, SKEIN_MAX_PORT, SKEIN_NET_BIND_TCP), 0);
-	expect("port, denied", skeinrabbit_port(t, 1, 80, SKEIN_NET_BIND_TCP), -SKEIN_EACCES);
+	expect("port", skeinrabbit_port(t, 1, SKEIN_MAX_PORT, SKEIN_NET_BIND_TCP, NULL), 0);
+	expect("port, denied", skeinrabbit_port(t, 1, 80, SKEIN_NET_BIND_TCP, NULL), -SKEIN_EACCES);
 }
 
 static void tree_calls(struct skein_tables *t)
 {
-	expect("create, denied", skeinrabbit_create(t, 1, 1, SKEIN_KIND_SOCKET), -SKEIN_EACCES);
-	expect("create, unknown kind", skeinrabbit_create(t, 1, 1, 8), -SKEIN_EINVAL);
-	expect("link", skeinrabbit_link(t, 0, 2, SKEIN_ROOT), 4);
-	expect("link, REFER denied", skeinrabbit_link(t, 1, 2, SKEIN_ROOT), -SKEIN_EXDEV);
-	expect("rename", skeinrabbit_rename(t, 0, 2, SKEIN_ROOT, 0, 0), 0);
-	expect("rename over its own link", skeinrabbit_rename(t, 0, 2, SKEIN_ROOT, 1, 4), 0);
-	expect("rename, file over directory", skeinrabbit_rename(t, 0, 2, SKEIN_ROOT, 1, 1), -SKEIN_EISDIR);
-	expect("exchange", skeinrabbit_exchange(t, 0, 3, SKEIN_ROOT, 2), 0);
-	expect("remove, root", skeinrabbit_remove(t, 0, SKEIN_ROOT), -SKEIN_EBUSY);
-	expect("remove", skeinrabbit_remove(t, 0, 4), 0);
+	expect("create, denied", skeinrabbit_create(t, 1, 1, SKEIN_KIND_SOCKET, NULL), -SKEIN_EACCES);
+	expect("create, unknown kind", skeinrabbit_create(t, 1, 1, 8, NULL), -SKEIN_EINVAL);
+	expect("link", skeinrabbit_link(t, 0, 2, SKEIN_ROOT, NULL), 4);
+	expect("link, REFER denied", skeinrabbit_link(t, 1, 2, SKEIN_ROOT, NULL), -SKEIN_EXDEV);
+	expect("rename", skeinrabbit_rename(t, 0, 2, SKEIN_ROOT, 0, 0, NULL), 0);
+	expect("rename over its own link", skeinrabbit_rename(t, 0, 2, SKEIN_ROOT, 1, 4, NULL), 0);
+	expect("rename, file over directory", skeinrabbit_rename(t, 0, 2, SKEIN_ROOT, 1, 1, NULL), -SKEIN_EISDIR);
+	expect("exchange", skeinrabbit_exchange(t, 0, 3, SKEIN_ROOT, 2, NULL), 0);
+	expect("remove, root", skeinrabbit_remove(t, 0, SKEIN_ROOT, NULL), -SKEIN_EBUSY);
+	expect("remove", skeinrabbit_remove(t, 0, 4, NULL), 0);
 }
 
 static void end_calls(struct skein_tables *t)
@@ -97,6 +100,112 @@ static void end_calls(struct skein_tables *t)
 	expect("pool rules used", (int64_t)t->system[3], 0);
 	expect("end, the only thread", skeinrabbit_end(t, SKEIN_FIRST_THREAD), -SKEIN_EBUSY);
 	expect("clone, a number used again", skeinrabbit_clone(t, SKEIN_FIRST_THREAD), 1);
+}
+
+static void expect_report(const char *call, const struct skein_report *report, uint64_t layer, uint64_t rights)
+{
+	if (report->layer != layer || report->rights != rights) {
+		printf("%s reported %llu, %#llx, expected %llu, %#llx\n", call, (unsigned long long)report->layer,
+		       (unsigned long long)report->rights, (unsigned long long)layer, (unsigned long long)rights);
+		differences++;
+	}
+}
+
+/* The worked tree of document 01 (1 /cal, 2 /import, 3 /cal/table, 4 /import/feed) under a layer with these rights for /cal. */
+static void worked_tree(struct skein_tables *t, uint64_t cal_rights)
+{
+	const struct skein_ruleset_attr attr = { WORKED, 0, 0 };
+
+	expect("fresh", skeinrabbit_fresh(t, SKEIN_MAX_LEVEL), 0);
+	expect("create", skeinrabbit_create(t, 0, SKEIN_ROOT, SKEIN_KIND_DIRECTORY, NULL), 1);
+	expect("create", skeinrabbit_create(t, 0, SKEIN_ROOT, SKEIN_KIND_DIRECTORY, NULL), 2);
+	expect("create", skeinrabbit_create(t, 0, 1, SKEIN_KIND_REGULAR, NULL), 3);
+	expect("create", skeinrabbit_create(t, 0, 2, SKEIN_KIND_REGULAR, NULL), 4);
+	expect("create_ruleset", skeinrabbit_create_ruleset(t, &attr, sizeof(attr), 0), 0);
+	expect("add_path_rule", skeinrabbit_add_path_rule(t, 0, 1, cal_rights, 0), 0);
+	expect("add_path_rule", skeinrabbit_add_path_rule(t, 0, 2, WORKED, 0), 0);
+	expect("set_no_new_privs", skeinrabbit_set_no_new_privs(t, 0), 0);
+	expect("restrict", skeinrabbit_restrict(t, 0, 0, 0), 0);
+}
+
+/* Gives thread 0 a second layer, which grants nothing. */
+static void second_layer(struct skein_tables *t, uint64_t fs, uint64_t net)
+{
+	const struct skein_ruleset_attr attr = { fs, net, 0 };
+
+	expect("create_ruleset", skeinrabbit_create_ruleset(t, &attr, sizeof(attr), 0), 1);
+	expect("restrict", skeinrabbit_restrict(t, 0, 1, 0), 0);
+	expect("close_ruleset", skeinrabbit_close_ruleset(t, 1), 0);
+}
+
+/* A report of every call that has one: the layer's number + 1, and its rights. */
+static void denied_reports(struct skein_tables *t)
+{
+	const uint64_t all = WORKED | SKEIN_FS_EXECUTE;
+	struct skein_report r = { 9, 9 };
+
+	worked_tree(t, SKEIN_FS_READ_FILE);
+	expect("access", skeinrabbit_access(t, 0, 1, all, &r), -SKEIN_EACCES);
+	expect_report("access", &r, 1, WORKED & ~SKEIN_FS_READ_FILE);
+	expect("create", skeinrabbit_create(t, 0, 1, SKEIN_KIND_REGULAR, &r), -SKEIN_EACCES);
+	expect_report("create", &r, 1, SKEIN_FS_MAKE_REG);
+	expect("remove", skeinrabbit_remove(t, 0, 3, &r), -SKEIN_EACCES);
+	expect_report("remove", &r, 1, SKEIN_FS_REMOVE_FILE);
+	expect("link", skeinrabbit_link(t, 0, 4, 1, &r), -SKEIN_EACCES);
+	expect_report("link", &r, 1, SKEIN_FS_MAKE_REG);
+	expect("rename", skeinrabbit_rename(t, 0, 4, 1, 1, 3, &r), -SKEIN_EACCES);
+	expect_report("rename", &r, 1, SKEIN_FS_MAKE_REG | SKEIN_FS_REMOVE_FILE);
+	expect("exchange", skeinrabbit_exchange(t, 0, 3, 2, 4, &r), -SKEIN_EACCES);
+	expect_report("exchange", &r, 1, SKEIN_FS_MAKE_REG | SKEIN_FS_REMOVE_FILE);
+	second_layer(t, 0, SKEIN_NET_CONNECT_TCP);
+	expect("port", skeinrabbit_port(t, 0, 80, SKEIN_NET_BIND_TCP | SKEIN_NET_CONNECT_TCP, &r), -SKEIN_EACCES);
+	expect_report("port", &r, 2, SKEIN_NET_CONNECT_TCP);
+	expect("access under a layer for ports", skeinrabbit_access(t, 0, 3, SKEIN_FS_WRITE_FILE, &r), -SKEIN_EACCES);
+	expect_report("access under a layer for ports", &r, 1, SKEIN_FS_WRITE_FILE);
+}
+
+/* EXDEV names what would be gained, or REFER; other answers name nothing. */
+static void other_reports(struct skein_tables *t)
+{
+	struct skein_report r = { 9, 9 };
+
+	worked_tree(t, WORKED & ~SKEIN_FS_WRITE_FILE);
+	expect("rename, a right gained", skeinrabbit_rename(t, 0, 3, 2, 0, 0, &r), -SKEIN_EXDEV);
+	expect_report("rename, a right gained", &r, 1, SKEIN_FS_WRITE_FILE);
+	second_layer(t, SKEIN_FS_EXECUTE, 0);
+	expect("rename, REFER denied", skeinrabbit_rename(t, 0, 3, 2, 0, 0, &r), -SKEIN_EXDEV);
+	expect_report("rename, REFER denied", &r, 2, SKEIN_FS_REFER);
+	expect("rename, no entry", skeinrabbit_rename(t, 0, 9, 2, 0, 0, &r), -SKEIN_ENOENT);
+	expect_report("rename, no entry", &r, 0, 0);
+	r.layer = r.rights = 9;
+	expect("access, granted", skeinrabbit_access(t, 0, 3, SKEIN_FS_READ_FILE, &r), 0);
+	expect_report("access, granted", &r, 0, 0);
+	r.layer = r.rights = 9;
+	t->system[0] = SKEIN_MAX_LEVEL + 1;
+	expect("access, level 7", skeinrabbit_access(t, 0, 3, SKEIN_FS_READ_FILE, &r), -SKEIN_EIO);
+	expect_report("access, level 7", &r, 0, 0);
+}
+
+/* Of a report of so many cells, what is there after an access for writing that is denied. */
+static void expect_cells(struct skein_tables *t, size_t length, uint64_t first, uint64_t second)
+{
+	uint64_t cells[5] = { 7, 7, 7, 7, 7 };
+	const uint64_t result = skein_access(SKEIN_TABLE_ARGUMENTS(t), 0, 3, SKEIN_FS_WRITE_FILE, cells, length);
+
+	expect("access with a report of any length", skeinrabbit_answer(result), -SKEIN_EACCES);
+	expect("first cell", (int64_t)cells[0], (int64_t)first);
+	expect("second cell", (int64_t)cells[1], (int64_t)second);
+	expect("cell past the report", (int64_t)cells[2], 7);
+	expect("last cell", (int64_t)cells[4], 7);
+}
+
+static void short_reports(struct skein_tables *t)
+{
+	worked_tree(t, SKEIN_FS_READ_FILE);
+	expect_cells(t, 0, 7, 7);
+	expect_cells(t, 1, 1, 7);
+	expect_cells(t, SKEIN_REPORT_CELLS, 1, SKEIN_FS_WRITE_FILE);
+	expect_cells(t, 5, 1, SKEIN_FS_WRITE_FILE);
 }
 
 /* The limits that the header names, on fresh tables. */
@@ -125,20 +234,23 @@ int main(void)
 	struct skein_tables *const t = &tables;
 
 	expect("bytes of the tables", (int64_t)sizeof(*t), 88864);
-	expect("access, tables of zeros", skeinrabbit_access(t, 0, SKEIN_ROOT, SKEIN_FS_READ_FILE), -SKEIN_EIO);
+	expect("access, tables of zeros", skeinrabbit_access(t, 0, SKEIN_ROOT, SKEIN_FS_READ_FILE, NULL), -SKEIN_EIO);
 	expect("create_ruleset, tables of zeros", skeinrabbit_create_ruleset(t, NULL, 24, 0), -SKEIN_EIO);
 	expect("fresh, level 7", skeinrabbit_fresh(t, SKEIN_MAX_LEVEL + 1), -SKEIN_EINVAL);
 	expect("fresh, level 0", skeinrabbit_fresh(t, 0), 0);
 	expect("create_ruleset, level 0", skeinrabbit_create_ruleset(t, NULL, 24, 0), -SKEIN_EOPNOTSUPP);
 	expect("fresh", skeinrabbit_fresh(t, SKEIN_MAX_LEVEL), 0);
-	expect("create", skeinrabbit_create(t, 0, SKEIN_ROOT, SKEIN_KIND_DIRECTORY), 1);
-	expect("create", skeinrabbit_create(t, 0, 1, SKEIN_KIND_REGULAR), 2);
-	expect("create", skeinrabbit_create(t, 0, SKEIN_ROOT, SKEIN_KIND_REGULAR), 3);
+	expect("create", skeinrabbit_create(t, 0, SKEIN_ROOT, SKEIN_KIND_DIRECTORY, NULL), 1);
+	expect("create", skeinrabbit_create(t, 0, 1, SKEIN_KIND_REGULAR, NULL), 2);
+	expect("create", skeinrabbit_create(t, 0, SKEIN_ROOT, SKEIN_KIND_REGULAR, NULL), 3);
 	ruleset_calls(t);
 	domain_calls(t);
 	requests(t);
 	tree_calls(t);
 	end_calls(t);
+	denied_reports(t);
+	other_reports(t);
+	short_reports(t);
 	limits(t);
 	return differences == 0 ? 0 : 1;
 }

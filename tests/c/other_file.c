@@ -5,5 +5,5 @@ int64_t request_from_other_file(struct skein_tables *t, uint64_t entry, uint64_t
 
 int64_t request_from_other_file(struct skein_tables *t, uint64_t entry, uint64_t rights)
 {
-	return skeinrabbit_access(t, 1, entry, rights);
+	return skeinrabbit_access(t, 1, entry, rights, NULL);
 }

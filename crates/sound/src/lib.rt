@@ -1,11 +1,12 @@
 // The soundness test of the tables: what every call does first.
 use access::limits::MAX_COUNTER;
-use access::limits::MAX_ENTRIES;
 use access::limits::MAX_LEVEL;
 use access::limits::MAX_RULESETS;
 use access::rights::Rights;
 use sound_entries::entries_sound;
 use sound_holders::domains_sound;
+use sound_objects::BUCKETS;
+use sound_objects::LINKS;
 use sound_objects::rows_used;
 use sound_rulesets::rulesets_sound;
 use sound_runs::layers_sound;
@@ -98,8 +99,9 @@ fn parts_sound(
         return false;
     }
     let end = rows_used(entries);
-    let mut heads = [0u64; 1024];
-    let mut links = [0u64; MAX_ENTRIES];
+    // Cells no wider than an entry's number needs, since they are zeroed at each call.
+    let mut heads = [0u16; BUCKETS];
+    let mut links = [0u16; LINKS];
     if !entries_sound(entries, end, next, &mut heads, &mut links) {
         return false;
     }

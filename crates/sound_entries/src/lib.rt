@@ -5,11 +5,11 @@ use sound_rows::root_sound;
 use sound_rows::rows_sound;
 ghost use mathlib.Core.Path.{_≡_};
 ghost use mathlib.Core.Bool.{true};
-ghost use lib.ListN.{length, replicate};
+ghost use Prim.Native.Nat.{_*_};
+ghost use lib.ListN.{replicate};
 ghost use Rattle.access.specs.Limits.{maxEntries};
-ghost use Rattle.tables.specs.Tables.{object};
 ghost use Rattle.sound_objects.specs.Rows.{Ends};
-ghost use Rattle.sound_objects.specs.Objects.{buckets, Indexed};
+ghost use Rattle.sound_objects.specs.Objects.{buckets, branches, Indexed};
 ghost use Rattle.sound_tree.specs.Tree.{entriesSound};
 
 // The entries are sound; `next` is the counter of object numbers. Fills the index of objects, which starts as zeros.
@@ -17,10 +17,10 @@ pub fn entries_sound(
     entries: &[u64],
     end: usize,
     next: u64,
-    heads: &mut [u64],
-    links: &mut [u64],
+    heads: &mut [u16],
+    links: &mut [u16],
 ) -> bool
-    requires { ⌜ Ends (now entries) end × ((now heads ≡ replicate buckets 0) × (length (now links) ≡ maxEntries)) ⌝ }
+    requires { ⌜ Ends (now entries) end × ((now heads ≡ replicate buckets 0) × (now links ≡ replicate (branches * maxEntries) 0)) ⌝ }
     ensures { λ r. ⌜ (r ≡ entriesSound (now (entries .entry)) next) × (r ≡ true → Indexed (now (entries .entry)) (now (heads .exit)) (now (links .exit))) ⌝ }
 {
     if !root_sound(entries) {

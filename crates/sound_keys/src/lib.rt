@@ -68,8 +68,8 @@ fn take_key(rules: &[u64], seen: &mut [u64], i: usize, ty: u64, key: u64) -> boo
 // Every rule of the cells is sound, and no two are for the same object or port.
 pub fn rules_sound(
     entries: &[u64],
-    heads: &[u64],
-    links: &[u64],
+    heads: &[u16],
+    links: &[u16],
     next: u64,
     fs: Rights,
     net: Rights,

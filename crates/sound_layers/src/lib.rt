@@ -44,8 +44,8 @@ fn run_placed(first: u64, count: u64, taken: u64) -> bool
 
 fn layer_sound(
     entries: &[u64],
-    heads: &[u64],
-    links: &[u64],
+    heads: &[u16],
+    links: &[u16],
     next: u64,
     level: u64,
     layers: &[u64],
@@ -79,8 +79,8 @@ fn layer_sound(
 // A record that nothing holds is zero; a layer in use is sound.
 fn record_sound(
     entries: &[u64],
-    heads: &[u64],
-    links: &[u64],
+    heads: &[u16],
+    links: &[u16],
     next: u64,
     level: u64,
     layers: &[u64],
@@ -100,8 +100,8 @@ fn record_sound(
 
 pub fn each_sound(
     entries: &[u64],
-    heads: &[u64],
-    links: &[u64],
+    heads: &[u16],
+    links: &[u16],
     next: u64,
     level: u64,
     layers: &[u64],

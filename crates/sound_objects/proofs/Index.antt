@@ -1,24 +1,24 @@
 -- How the index grows by an entry. Assumes nothing.
 use mathlib.Core.Path.{_≡_, refl, sym, ap, _∙_}
-use mathlib.Core.Bool.{Bool, true, false, _&&_}
+use mathlib.Core.Bool.{true, false}
 use mathlib.Core.List.{List}
-use Prim.Native.Nat.{ℕ, zero, suc, _+_, _-_, _≤_, _<_}
-use native.Mathlib.Nat.{not-suc-le-zero, mod-lt, add-zero, add-suc}
-use native.Mathlib.Numerals.{add-one}
+use Prim.Native.Nat.{ℕ, _+_, _-_, _*_, _≤_, _<_}
+use native.Mathlib.Nat.{not-suc-le-zero, le-refl, mod-lt}
 use native.Mathlib.Omega.{arith}
 use lib.Dec.{eqb, ltb}
 use lib.ListN.{length, getD, set, replicate, length-set, length-replicate}
 use lib.Seq.{getD-set-same, getD-set-other}
-use borrow.Author.Tests.{eq-eqb, ne-eqb, eqb-true, eqb-false, ltb-true, ltb-false}
+use borrow.Author.Tests.{eqb-true, eqb-false, ltb-true, ltb-false}
 use Rattle.laws.proofs.Bools.{split, clash}
 use Rattle.laws.proofs.Cells.{getD-zeros}
 use Rattle.access.specs.Limits.{maxEntries}
-use Rattle.tables.specs.Tables.{object, live}
+use Rattle.tables.specs.Tables.{kind, object, live}
 use Rattle.sound_objects.specs.Rows.{Ends}
-use Rattle.sound_objects.specs.Objects.{buckets, bucketOf, latest, Headed, Linked, IndexedBelow, Indexed}
+use Rattle.sound_objects.specs.Objects.{buckets, branches, bucketOf, keyOf, Found, here, Missed, Nodes, Trees, Stands, IndexedBelow, Indexed}
 use Rattle.sound_objects.proofs.Rows.{free-kind}
+use Rattle.sound_objects.proofs.Trees.{Kept, kept-same, kept-set, found-some, found-one, found-kept, missed-some, missed-empty, missed-cell, missed-filled}
 
-pub bucket-below : (o : ℕ) → bucketOf o < buckets
+bucket-below : (o : ℕ) → bucketOf o < buckets
 unfolding bucketOf
 bucket-below o = mod-lt o (omega arith)
 
@@ -26,107 +26,119 @@ bucket-below o = mod-lt o (omega arith)
 pub bucket-in : {r : ℕ} (o : ℕ) → r ≡ bucketOf o → r < buckets
 bucket-in o h = let k = bucket-below o in omega arith
 
-pub length-zeros : (heads : List ℕ) → heads ≡ replicate buckets 0 → length heads ≡ buckets
-length-zeros heads h = ap length h ∙ length-replicate {A = ℕ} buckets 0
+pub zeros-length : (n : ℕ) {cells : List ℕ} → cells ≡ replicate n 0 → length cells ≡ n
+zeros-length n h = ap length h ∙ length-replicate {A = ℕ} n 0
+
+-- the entry that a filled cell holds
+held-entry : (e : ℕ) → e + 1 - 1 ≡ e
+held-entry e = omega arith
 
 module _ (es : List ℕ) where
-  -- entry e is in bucket b
-  abbrev pub inBucket : ℕ → ℕ → Bool
-  inBucket b e = live es e && eqb (bucketOf (object es e)) b
+  -- more entries, and the cells as they are
+  nodes-more : (cells : List ℕ) {n m : ℕ} → n ≤ m → Nodes es cells n → Nodes es cells m
+  nodes-more cells l N p d = let s = N p d in ((let k = s .0 in omega arith), s .1)
 
-  module _ (b e : ℕ) where
-    pub latest-here : inBucket b e ≡ true → latest es b (suc e) ≡ suc e
-    unfolding latest
-    latest-here h = rw h
+  pub trees-more : {links : List ℕ} {n m : ℕ} → n ≤ m → Trees es links n → Trees es links m
+  trees-more {links} l T = record { size = T .size; nodes = nodes-more links l (T .nodes); rises = T .rises }
 
-    pub latest-past : inBucket b e ≡ false → latest es b (suc e) ≡ latest es b e
-    unfolding latest
-    latest-past h = rw h
+  -- a cell holds live entry e
+  nodes-set : (cells : List ℕ) (p e : ℕ) → p < length cells → live es e ≡ true → Nodes es cells e → Nodes es (set cells p (e + 1)) (e + 1)
+  nodes-set cells p e w l N q = split (eqb q p)
+      (λ y. rw (eqb-true q p y, getD-set-same cells p (e + 1) 0 w) (λ d. (le-refl (e + 1), rw (held-entry e) l)))
+      (λ y. rw (getD-set-other cells p q (e + 1) 0 (eqb-false q p y)) (nodes-more cells (omega arith) N q))
 
-    latest-live : live es e ≡ true → bucketOf (object es e) ≡ b → latest es b (e + 1) ≡ e + 1
-    latest-live l h = rw (add-one) (latest-here (rw (l, eq-eqb (bucketOf (object es e)) b h) refl))
-
-    latest-other : live es e ≡ true → (bucketOf (object es e) ≡ b → ⊥) → latest es b (e + 1) ≡ latest es b e
-    latest-other l h = rw (add-one) (latest-past (rw (l, ne-eqb (bucketOf (object es e)) b h) refl))
-
-    latest-free : live es e ≡ false → latest es b (e + 1) ≡ latest es b e
-    latest-free l = rw (add-one) (latest-past (rw l refl))
+  trees-set : (links : List ℕ) (p e : ℕ) → e < maxEntries → p < branches * e → live es e ≡ true → Trees es links e → Trees es (set links p (e + 1)) (e + 1)
+  trees-set links p e k w l T = record {
+    size = length-set links p (e + 1) ∙ T .size;
+    nodes = nodes-set links p e (let z = T .size in omega arith) l (T .nodes);
+    rises = λ q. split (eqb q p)
+        (λ y. rw (eqb-true q p y, getD-set-same links p (e + 1) 0 (let z = T .size in omega arith)) (λ d. omega arith))
+        (λ y. rw (getD-set-other links p q (e + 1) 0 (eqb-false q p y)) (T .rises q));
+  }
 
   -- the index starts as zeros
-  headed-none : (heads : List ℕ) → heads ≡ replicate buckets 0 → Headed es heads 0
-  unfolding latest
-  headed-none heads h b k = ap (λ (l : List ℕ). getD l b 0) h ∙ getD-zeros buckets b
+  nodes-none : (n : ℕ) (cells : List ℕ) → cells ≡ replicate n 0 → Nodes es cells 0
+  nodes-none n cells h p d = absurd (d (ap (λ (l : List ℕ). getD l p 0) h ∙ getD-zeros n p))
 
-  pub index-none : (heads links : List ℕ) → heads ≡ replicate buckets 0 → length links ≡ maxEntries → IndexedBelow es heads links 0
-  index-none heads links h w = (length-zeros heads h, (w, (headed-none heads h, λ e k l. absurd (not-suc-le-zero k))))
+  pub index-none : (heads links : List ℕ) → heads ≡ replicate buckets 0 → links ≡ replicate (branches * maxEntries) 0 → IndexedBelow es heads links 0
+  index-none heads links h m = record {
+    size = zeros-length buckets h;
+    roots = nodes-none buckets heads h;
+    trees = record {
+      size = zeros-length (branches * maxEntries) m;
+      nodes = nodes-none (branches * maxEntries) links m;
+      rises = λ p d. absurd (d (ap (λ (l : List ℕ). getD l p 0) m ∙ getD-zeros (branches * maxEntries) p));
+    };
+    held = λ e o k l q. absurd (not-suc-le-zero k);
+  }
 
-  module _ (heads : List ℕ) (e : ℕ) (H : Headed es heads e) where
-    -- a free entry
-    headed-free : live es e ≡ false → Headed es heads (e + 1)
-    headed-free l b k = H b k ∙ sym (latest-free b e l)
+  -- what a node stands for, it stands for once empty cells are filled
+  stands-kept : {heads next links more : List ℕ} {o k : ℕ} → Kept heads next → Kept links more → Stands es heads links o k → Stands es next more o k
+  stands-kept {links = links} {more = more} {o = o} H L s = record { node = s .node; found = rw (H (bucketOf o) (found-some (s .found))) (found-kept links more L (s .found)); alike = s .alike }
 
-    -- a live entry heads its bucket
-    headed-live : live es e ≡ true → length heads ≡ buckets → Headed es (set heads (bucketOf (object es e)) (e + 1)) (e + 1)
-    headed-live l w b k =
-        let o = bucketOf (object es e) in
-        split (eqb o b)
-        (λ q. let z : o ≡ b = eqb-true o b q in
-        rw (z) (getD-set-same heads b (e + 1) 0 (omega arith) ∙ sym (latest-live b e l z)))
-        (λ q. let d : (o ≡ b → ⊥) = eqb-false o b q in
-        getD-set-other heads o b (e + 1) 0 (λ z. d (sym z)) ∙ H b k ∙ sym (latest-other b e l d))
+  -- the node of an object has the kind of its entries
+  pub stands-alike : {heads links : List ℕ} {o k to : ℕ} → Stands es heads links o k → Found es links o (getD heads (bucketOf o) 0) (keyOf o) to → k ≡ kind es (to - 1)
+  stands-alike s r = sym (s .alike) ∙ ap (λ (n : ℕ). kind es (n - 1)) (found-one r (s .found))
 
-    -- and is linked to the head that was there
-    linked-more : (links : List ℕ) → e < length links → Linked es links e → Linked es (set links e (getD heads (bucketOf (object es e)) 0)) (e + 1)
-    linked-more links w L f k l =
-        let o = bucketOf (object es e) in
-        split (eqb f e)
-        (λ q. let z : f ≡ e = eqb-true f e q in
-        rw (z) (getD-set-same links e (getD heads o 0) 0 w ∙ H o (bucket-below (object es e))))
-        (λ q. let d : (f ≡ e → ⊥) = eqb-false f e q in
-        getD-set-other links e f (getD heads o 0) 0 d ∙ L f (omega arith) l)
+  -- ---- entry e goes into the index of those below it
+  module _ {heads links : List ℕ} {e : ℕ} (u : IndexedBelow es heads links e) where
+    -- where cells are filled so that a node stands for it
+    index-more : {next more : List ℕ} → length next ≡ buckets → Nodes es next (e + 1) → Trees es more (e + 1) → Kept heads next → Kept links more
+        → (live es e ≡ true → Stands es next more (object es e) (kind es e)) → IndexedBelow es next more (e + 1)
+    index-more w N T H L s = record {
+      size = w;
+      roots = N;
+      trees = T;
+      held = λ f o k l q. split (eqb f e)
+          (λ y. let z = eqb-true f e y in rw (← q, z) (s (rw (← z) l)))
+          (λ y. let d = eqb-false f e y in stands-kept H L (u .held f o (omega arith) l q));
+    }
 
-    linked-free : (links : List ℕ) → live es e ≡ false → Linked es links e → Linked es links (e + 1)
-    linked-free links n L f k l =
-        split (eqb f e)
-        (λ q. clash (live es e) (rw (← eqb-true f e q) l) n)
-        (λ q. let d : (f ≡ e → ⊥) = eqb-false f e q in L f (omega arith) l)
+    index-as-is : (live es e ≡ true → Stands es heads links (object es e) (kind es e)) → IndexedBelow es heads links (e + 1)
+    index-as-is = index-more (u .size) (nodes-more heads (omega arith) (u .roots)) (trees-more (omega arith) (u .trees)) (kept-same heads) (kept-same links)
 
-  -- a turn of the loop
-  module _ (heads links : List ℕ) (e : ℕ) (u : IndexedBelow es heads links e) where
-    -- by the bucket b that it found
-    pub index-live : {b : ℕ} {next more : List ℕ} → e < maxEntries → b ≡ bucketOf (object es e) → live es e ≡ true
-        → next ≡ set heads b (e + 1) → more ≡ set links e (getD heads b 0) → IndexedBelow es next more (e + 1)
-    index-live {b} k q l h m =
-        let w = u .1 .0 in
-        rw (h, m, q) (
-          length-set heads (bucketOf (object es e)) (e + 1) ∙ u .0,
-          (
-            length-set links e (getD heads (bucketOf (object es e)) 0) ∙ w,
-            (headed-live heads e (u .1 .1 .0) l (u .0), linked-more heads e (u .1 .1 .0) links (omega arith) (u .1 .1 .1)),
-          ),
-        )
+    pub index-free : live es e ≡ false → IndexedBelow es heads links (e + 1)
+    index-free l = index-as-is (λ k. clash (live es e) k l)
 
-    pub index-free : {next more : List ℕ} → live es e ≡ false → next ≡ heads → more ≡ links → IndexedBelow es next more (e + 1)
-    index-free l h m = rw (h, m) (u .0, (u .1 .0, (headed-free heads e (u .1 .1 .0) l, linked-free heads e (u .1 .1 .0) links l (u .1 .1 .1))))
+    -- a node of its object and kind is there already
+    pub index-same : {to : ℕ} → Found es links (object es e) (getD heads (bucketOf (object es e)) 0) (keyOf (object es e)) to → kind es (to - 1) ≡ kind es e → IndexedBelow es heads links (e + 1)
+    index-same {to} s q = index-as-is (λ l. record { node = to; found = s; alike = q })
+
+    module _ (k : e < maxEntries) (l : live es e ≡ true) where
+      -- it is the root of its bucket
+      pub index-root : getD heads (bucketOf (object es e)) 0 ≡ 0 → IndexedBelow es (set heads (bucketOf (object es e)) (e + 1)) links (e + 1)
+      index-root z =
+          let b : ℕ = bucketOf (object es e) in
+          let w : b < length heads = (let h = bucket-below (object es e) in let i = u .size in omega arith) in
+          index-more (length-set heads b (e + 1) ∙ u .size) (nodes-set heads b e w l (u .roots)) (trees-more (omega arith) (u .trees)) (kept-set heads b (e + 1) z) (kept-same links)
+          (λ v. record {
+            node = e + 1;
+            found = rw (getD-set-same heads b (e + 1) 0 w) (here {at = e + 1} (omega arith) (rw (held-entry e) refl));
+            alike = rw (held-entry e) refl;
+          })
+
+      -- it is a child in the cell p
+      pub index-child : {p : ℕ} → Missed es links (object es e) (getD heads (bucketOf (object es e)) 0) (keyOf (object es e)) p → IndexedBelow es heads (set links p (e + 1)) (e + 1)
+      index-child {p} m =
+          let c : p < branches * e = missed-cell es links (u .trees .nodes) m (u .roots (bucketOf (object es e)) (missed-some m) .0) in
+          let w : p < length links = (let i = u .trees .size in omega arith) in
+          let L : Kept links (set links p (e + 1)) = kept-set links p (e + 1) (missed-empty m) in
+          index-more (u .size) (nodes-more heads (omega arith) (u .roots)) (trees-set links p e k c l (u .trees)) (kept-same heads) L
+          (λ v. record {
+            node = e + 1;
+            found = missed-filled links (set links p (e + 1)) L m (getD-set-same links p (e + 1) 0 w) (omega arith) (rw (held-entry e) refl);
+            alike = rw (held-entry e) refl;
+          })
 
   -- the rows from `end` on add nothing
-  latest-rest : (b end n : ℕ) → Ends es end → latest es b (end + n) ≡ latest es b end
-  latest-rest b end zero E = ap (latest es b) (add-zero end)
-  latest-rest b end (suc n) E = ap (latest es b) (add-suc end n) ∙ latest-past b (end + n) (rw (free-kind es E (end + n) (omega arith)) refl) ∙ latest-rest b end n E
-
-  pub index-done : (heads links : List ℕ) (end e : ℕ) → Ends es end → e ≤ end → end ≤ e → IndexedBelow es heads links e → Indexed es heads links
-  index-done heads links end e E a k u =
-      let z : e ≡ end = omega arith in
-      let v : IndexedBelow es heads links end = rw z at u in
-      let m : end + (maxEntries - end) ≡ maxEntries = (let w = E .1 .0 in omega arith) in (
-        v .0,
-        (
-          v .1 .0,
-          (
-            λ b q. v .1 .1 .0 b q ∙ sym (latest-rest b end (maxEntries - end) E) ∙ ap (latest es b) m,
-            λ f q l. split (ltb f end)
-                (λ p. v .1 .1 .1 f (ltb-true f end p) l)
-                (λ p. clash (live es f) l (free-kind es E f (ltb-false f end p))),
-          ),
-        ),
-      )
+  pub index-done : {heads links : List ℕ} {end e : ℕ} → Ends es end → e ≤ end → end ≤ e → IndexedBelow es heads links e → Indexed es heads links
+  index-done {heads} {links} {end} {e} E a b u =
+      let w : e ≤ maxEntries = (let k = E .1 .0 in omega arith) in
+      record {
+        size = u .size;
+        roots = nodes-more heads w (u .roots);
+        trees = trees-more w (u .trees);
+        held = λ f o k l q. split (ltb f e)
+            (λ y. u .held f o (ltb-true f e y) l q)
+            (λ y. let g = ltb-false f e y in clash (live es f) l (free-kind es E f (omega arith)));
+      }

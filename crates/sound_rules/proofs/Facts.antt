@@ -51,7 +51,7 @@ pub record Masks (level fs net scope : ℕ) : Type 0 where
 
 -- ---- an entry that is a file of the object
 module _ (es : List ℕ) (o e : ℕ) where
-  file-of : live es e ≡ true → isDir es e ≡ false → object es e ≡ o → isFileOf es o e ≡ true
+  pub file-of : live es e ≡ true → isDir es e ≡ false → object es e ≡ o → isFileOf es o e ≡ true
   unfolding isFileOf
   file-of l d q = both _ _ (eq-eqb (object es e) o q) (both _ _ l (not-of-false _ d))
 
@@ -63,7 +63,7 @@ module _ (es : List ℕ) (o e : ℕ) where
   unfolding isFileOf
   file-live f = and-l _ _ (and-r (eqb (object es e) o) _ f)
 
-  file-no-dir : isFileOf es o e ≡ true → isDir es e ≡ false
+  pub file-no-dir : isFileOf es o e ≡ true → isDir es e ≡ false
   unfolding isFileOf
   file-no-dir f = not-true _ (and-r (live es e) _ (and-r (eqb (object es e) o) _ f))
 

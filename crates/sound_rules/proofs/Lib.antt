@@ -1,4 +1,5 @@
 -- What sound rules are.
 pub mod Facts
+pub mod Files
 pub mod Flags
 pub mod Loop

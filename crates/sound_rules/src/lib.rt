@@ -2,52 +2,37 @@
 use access::limits::MAX_PORT;
 use access::rights::Rights;
 use sound_objects::bucket_of;
+use sound_objects::search;
 use tables::rows::DIRECTORY;
-use tables::rows::ENTRY_OBJECT;
 use tables::rows::ENTRY_WIDTH;
 use tables::rows::PATH_RULE;
 use tables::rows::PORT_RULE;
 ghost use mathlib.Core.Path.{_≡_};
-ghost use mathlib.Core.Bool.{true};
-ghost use Prim.Native.Nat.{_+_, _*_, _<_};
+ghost use Prim.Native.Nat.{_*_};
 ghost use lib.ListN.{length};
 ghost use Rattle.access.specs.Limits.{maxEntries};
 ghost use Rattle.tables.specs.Tables.{entryWidth};
 ghost use Rattle.sound_objects.specs.Objects.{Indexed};
-ghost use Rattle.sound_rules.specs.Rules.{isFileOf, fileObject, rightsFit, pathSound, portSound, cellsSound, masksKnown};
+ghost use Rattle.sound_rules.specs.Rules.{fileObject, rightsFit, pathSound, portSound, cellsSound, masksKnown};
 
-// Entry `e` is live, no directory, and of the object.
-fn is_file_of(entries: &[u64], object: u64, e: usize) -> bool
-    requires { ⌜ (length (now entries) ≡ entryWidth * maxEntries) × (e < maxEntries) ⌝ }
-    ensures { λ r. ⌜ r ≡ isFileOf (now (entries .entry)) object e ⌝ }
-{
-    if entries[ENTRY_WIDTH * e + ENTRY_OBJECT] != object {
-        return false;
-    }
-    let kind = entries[ENTRY_WIDTH * e];
-    if kind == 0 {
-        return false;
-    }
-    kind != DIRECTORY
-}
-
-// Some live entry that is no directory has the object: searched in its bucket of the index.
-fn file_object(entries: &[u64], heads: &[u64], links: &[u64], object: u64) -> bool
+// Some live entry that is no directory has the object: by the node that stands for all entries of the object.
+fn file_object(entries: &[u64], heads: &[u16], links: &[u16], object: u64) -> bool
     requires { ⌜ (length (now entries) ≡ entryWidth * maxEntries) × Indexed (now entries) (now heads) (now links) ⌝ }
     ensures { λ r. ⌜ r ≡ fileObject (now (entries .entry)) object ⌝ }
 {
-    let mut at = heads[bucket_of(object)];
-    while at != 0 {
-        let e = (at - 1) as usize;
-        if is_file_of(entries, object, e) {
-            return true;
-        }
-        at = links[e];
+    let root = heads[bucket_of(object)] as usize;
+    if root == 0 {
+        return false;
     }
-    false
+    let place = search(entries, links, object, root);
+    let node = place.node;
+    if node == 0 {
+        return false;
+    }
+    entries[ENTRY_WIDTH * (node - 1)] != DIRECTORY
 }
 
-fn rights_fit(entries: &[u64], heads: &[u64], links: &[u64], object: u64, rights: Rights) -> bool
+fn rights_fit(entries: &[u64], heads: &[u16], links: &[u16], object: u64, rights: Rights) -> bool
     requires { ⌜ (length (now entries) ≡ entryWidth * maxEntries) × Indexed (now entries) (now heads) (now links) ⌝ }
     ensures { λ r. ⌜ r ≡ rightsFit (now (entries .entry)) object (rights .0) ⌝ }
 {
@@ -59,8 +44,8 @@ fn rights_fit(entries: &[u64], heads: &[u64], links: &[u64], object: u64, rights
 
 fn path_sound(
     entries: &[u64],
-    heads: &[u64],
-    links: &[u64],
+    heads: &[u16],
+    links: &[u16],
     next: u64,
     fs: Rights,
     object: u64,
@@ -95,8 +80,8 @@ fn port_sound(net: Rights, port: u64, rights: Rights) -> bool
 
 pub fn cells_sound(
     entries: &[u64],
-    heads: &[u64],
-    links: &[u64],
+    heads: &[u16],
+    links: &[u16],
     next: u64,
     fs: Rights,
     net: Rights,

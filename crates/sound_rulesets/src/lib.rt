@@ -22,8 +22,8 @@ ghost use Rattle.sound_rulesets.specs.Rulesets.{rulesetSound, rulesetsSo
 
 fn ruleset_sound(
     entries: &[u64],
-    heads: &[u64],
-    links: &[u64],
+    heads: &[u16],
+    links: &[u16],
     next: u64,
     level: u64,
     rulesets: &[u64],
@@ -58,8 +58,8 @@ fn ruleset_sound(
 // The rulesets are sound; `next` is the counter of object numbers, `heads` and `links` are the index of objects.
 pub fn rulesets_sound(
     entries: &[u64],
-    heads: &[u64],
-    links: &[u64],
+    heads: &[u16],
+    links: &[u16],
     next: u64,
     level: u64,
     rulesets: &[u64],

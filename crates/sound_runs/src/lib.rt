@@ -84,8 +84,8 @@ fn pool_rest(pool: &[u64], taken: u64) -> bool
 // The layers and the pool are sound; `next` is the counter of object numbers, `heads` and `links` are the index of objects.
 pub fn layers_sound(
     entries: &[u64],
-    heads: &[u64],
-    links: &[u64],
+    heads: &[u16],
+    links: &[u16],
     next: u64,
     level: u64,
     layers: &[u64],

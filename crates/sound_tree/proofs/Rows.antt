@@ -1,25 +1,24 @@
 -- How code comes to the tests of an entry and of two entries, from the cells that it reads. Assumes nothing.
 use mathlib.Core.Path.{_≡_, refl, sym, ap, _∙_}
-use mathlib.Core.Bool.{Bool, true, false, not, _&&_}
+use mathlib.Core.Bool.{Bool, true, false, _&&_}
 use mathlib.Core.List.{List, [], _∷_}
-use Prim.Native.Nat.{ℕ, _+_, _*_, _≤_}
+use Prim.Native.Nat.{ℕ, _+_, _*_, _≤_, _<_}
 use native.Mathlib.Omega.{arith}
 use lib.Dec.{eqb, ltb, leb}
 use lib.ListN.{length}
-use borrow.Author.Tests.{eq-eqb, ne-eqb, eqb-true, ltb-true, ltb-false, not-true, not-false}
-use Rattle.laws.specs.Tests.{allBelow, anyBelow, allOf}
-use Rattle.laws.proofs.Bools.{and-l, and-r, clash, split, agree, cond-then, cond-else, cond-of}
+use borrow.Author.Tests.{eq-eqb, eqb-true, ltb-true, ltb-false}
+use Rattle.laws.specs.Tests.{allBelow, allOf}
+use Rattle.laws.proofs.Bools.{and-l, and-r, split, agree, cond-then, cond-else, cond-of}
 use Rattle.laws.proofs.Cells.{past}
-use Rattle.laws.proofs.Tests.{all-at, all-of, none-at, none-of, allOf-at, allOf-of, met, _also_}
+use Rattle.laws.proofs.Tests.{all-at, all-of, all-fails, allOf-at, allOf-of, met, _also_}
 use Rattle.access.specs.Kinds.{directory, lastKind}
 use Rattle.access.specs.Limits.{maxEntries}
 use Rattle.tables.specs.Tables.{entryWidth, kind, parent, object, live, isDir}
 use Rattle.sound_objects.specs.Rows.{Ends}
-use Rattle.sound_objects.specs.Objects.{bucketOf}
 use Rattle.sound_objects.proofs.Live.{first, first-kind, live-no, live-yes}
 use Rattle.sound_objects.proofs.Rows.{free-kind}
 use Rattle.sound_tree.specs.Tree.{rootSound, entrySound, liveSound, freeSound, parentIsDir, objectBelow, climbEnds, sameObject, linkSound, linksSound, entriesSound}
-use Rattle.sound_tree.specs.Fast.{rowSound, liveClimbEnds, ParentsLive, cellsAgree}
+use Rattle.sound_tree.specs.Fast.{rowSound, liveClimbEnds, ParentsLive, kindsAgree}
 use Rattle.sound_tree.proofs.Facts.{in-table}
 
 -- ---- a directory
@@ -82,58 +81,42 @@ module _ (es : List ℕ) (e : ℕ) where
   unfolding liveClimbEnds
   climb-live h = rw (live-yes es e h)
 
--- ---- kind k and object o against entry f, from the cells that the code reads
-module _ (es : List ℕ) (k o f : ℕ) where
-  pub cells-other : (o ≡ object es f → ⊥) → true ≡ cellsAgree k o (kind es f) (object es f)
-  unfolding cellsAgree
-  cells-other h = rw (ne-eqb o (object es f) h)
-
-  pub cells-same : {r : Bool} → o ≡ object es f → r ≡ allOf (eqb k (first es f) ∷ not (eqb k directory) ∷ []) → r ≡ cellsAgree k o (kind es f) (object es f)
-  unfolding cellsAgree
-  cells-same h q = rw (eq-eqb o (object es f) h, ← first-kind es f) q
-
--- ---- two entries
-module _ (es : List ℕ) (e f : ℕ) where
-  link-none : sameObject es e f ≡ false → true ≡ linkSound es e f
-  unfolding linkSound
-  link-none h = rw h
-
-  link-free : live es e ≡ false → true ≡ linkSound es e f
-  unfolding sameObject
-  link-free l = link-none (split (eqb (object es e) (object es f)) (λ q. rw (q, l) refl) (λ q. rw q refl))
-
-  pub link-live : {r : Bool} → (first es e ≡ 0 → ⊥) → live es f ≡ true → r ≡ cellsAgree (first es e) (object es e) (kind es f) (object es f) → r ≡ linkSound es e f
-  unfolding linkSound sameObject isDir cellsAgree
-  link-live h k q = q ∙ rw (first-kind es e) (split (eqb (object es e) (object es f)) (λ p. rw (p, live-yes es e h, k) refl) (λ p. rw p refl))
-
 -- ---- an entry against those before it
 module _ (es : List ℕ) (e : ℕ) where
-  -- what a walk along the bucket looks for
-  abbrev pub unlike : ℕ → Bool
-  unlike f = not (linkSound es e f)
-
-  pub unlike-only : (f : ℕ) → unlike f ≡ true → (live es f ≡ true) × (bucketOf (object es f) ≡ bucketOf (object es e))
-  unfolding linkSound sameObject
-  unlike-only f h =
-      split (sameObject es e f)
-      (λ s.
+  same-is : (f : ℕ) → sameObject es e f ≡ true → (live es f ≡ true) × (object es f ≡ object es e)
+  unfolding sameObject
+  same-is f s =
       let m = and-r (eqb (object es e) (object es f)) (live es e && live es f) s in
-      (and-r (live es e) (live es f) m, ap bucketOf (sym (eqb-true (object es e) (object es f) (and-l (eqb (object es e) (object es f)) (live es e && live es f) s)))))
-      (λ s. clash (linkSound es e f) (sym (link-none es e f s)) (not-true (linkSound es e f) h))
+      (and-r (live es e) (live es f) m, sym (eqb-true (object es e) (object es f) (and-l (eqb (object es e) (object es f)) (live es e && live es f) s)))
 
-  pub links-no : true ≡ anyBelow unlike e → false ≡ linksSound es e
-  unfolding linksSound
-  links-no h = split (linksSound es e)
-      (λ q. clash (anyBelow unlike e) (sym h) (none-of unlike e (λ f k. ap not (all-at (linkSound es e) e f q k))))
-      (λ q. sym q)
+  link-same : (f : ℕ) → live es e ≡ true → live es f ≡ true → object es f ≡ object es e → linkSound es e f ≡ kindsAgree (kind es e) (kind es f)
+  unfolding linkSound sameObject isDir kindsAgree
+  link-same f l k q = rw (eq-eqb (object es e) (object es f) (sym q), l, k)
 
-  pub links-yes : false ≡ anyBelow unlike e → true ≡ linksSound es e
-  unfolding linksSound
-  links-yes h = sym (all-of (linkSound es e) e (λ f k. not-false (linkSound es e f) (none-at unlike e f (sym h) k)))
+  link-by : (f : ℕ) → (live es f ≡ true → object es f ≡ object es e → kindsAgree (kind es e) (kind es f) ≡ true) → linkSound es e f ≡ true
+  unfolding linkSound isDir kindsAgree
+  link-by f h = cond-of (sameObject es e f) (kindsAgree (kind es e) (kind es f)) true (λ s. let m = same-is f s in h (m .0) (m .1)) (λ s. refl)
+
+  link-free : live es e ≡ false → (f : ℕ) → linkSound es e f ≡ true
+  unfolding linkSound sameObject
+  link-free l f = split (eqb (object es e) (object es f)) (λ q. rw (q, l) refl) (λ q. rw q refl)
 
   pub links-free : live es e ≡ false → true ≡ linksSound es e
   unfolding linksSound
-  links-free l = sym (all-of (linkSound es e) e (λ f k. sym (link-free es e f l)))
+  links-free l = sym (all-of (linkSound es e) e (λ f k. link-free l f))
+
+  -- none before it has its object
+  pub links-none : ((f : ℕ) → f < e → live es f ≡ true → object es f ≡ object es e → ⊥) → true ≡ linksSound es e
+  unfolding linksSound
+  links-none h = sym (all-of (linkSound es e) e (λ f k. link-by f (λ l q. absurd (h f k l q))))
+
+  -- those that have it are of the kind of entry f, one of them
+  pub links-same : {r : Bool} (f : ℕ) → f < e → live es e ≡ true → live es f ≡ true → object es f ≡ object es e
+      → ((j : ℕ) → j < e → live es j ≡ true → object es j ≡ object es e → kind es j ≡ kind es f) → r ≡ kindsAgree (kind es e) (kind es f) → r ≡ linksSound es e
+  unfolding linksSound
+  links-same f k l m q h z = z ∙ split (kindsAgree (kind es e) (kind es f))
+      (λ y. y ∙ sym (all-of (linkSound es e) e (λ j i. link-by j (λ a b. rw (h j i a b) y))))
+      (λ y. y ∙ all-fails (linkSound es e) e f k (link-same f l m q ∙ y))
 
 -- ---- all of them
 -- a loop's end, where every number from the end on passes

@@ -26,6 +26,6 @@ abbrev pub Known : List ℕ → List ℕ → ℕ → Type 0
 Known es marks n =
     (length marks ≡ maxEntries) × (((e : ℕ) → getD marks e 0 ≤ n) × ((e : ℕ) → (getD marks e 0 ≡ 0 → ⊥) → reaches es maxEntries e ≡ true))
 
--- two live entries, by their kinds k and l and their objects o and p
-unfoldable pub cellsAgree : ℕ → ℕ → ℕ → ℕ → Bool
-cellsAgree k o l p = cond (eqb o p) (allOf (eqb k l ∷ not (eqb k directory) ∷ [])) true
+-- two live entries of one object, by their kinds k and l
+unfoldable pub kindsAgree : ℕ → ℕ → Bool
+kindsAgree k l = allOf (eqb k l ∷ not (eqb k directory) ∷ [])

@@ -122,15 +122,29 @@ pub fn with_leaver() -> Tables {
     build.tables
 }
 
-/// The tables with every object number multiplied by 1,024: all fall into one bucket.
-pub fn one_bucket(mut tables: Tables) -> Tables {
-    tables.system[1] *= 1024;
-    for row in tables.entries.chunks_exact_mut(ENTRY_WIDTH) {
-        row[2] *= 1024;
+/// A directory and 1,000 hard links of one file in it.
+pub fn linked() -> Tables {
+    let mut build = Build::new(7);
+    let file = build.entry(REGULAR, 0);
+    let object = build.tables.object(file);
+    for _ in 1..1000 {
+        build.put(REGULAR, 0, object);
     }
-    let rules = tables.pool.chunks_exact_mut(RULE_WIDTH);
+    build.tables
+}
+
+/// The tables with every object number multiplied. By 1,024 all fall into one bucket, and differ in the digits next to it; by 2^22, as much as the
+/// counter allows, in the highest digits alone, which makes the tree deepest.
+pub fn spread(mut tables: Tables, factor: u64) -> Tables {
+    tables.system[1] *= factor;
+    for row in tables.entries.chunks_exact_mut(ENTRY_WIDTH) {
+        row[2] *= factor;
+    }
+    let rulesets = tables.rulesets.chunks_exact_mut(RULESET_WIDTH);
+    let rules = rulesets.flat_map(|row| row[RULESET_HEAD..].chunks_exact_mut(RULE_WIDTH));
+    let rules = rules.chain(tables.pool.chunks_exact_mut(RULE_WIDTH));
     for rule in rules.filter(|rule| rule[0] == PATH_RULE) {
-        rule[1] *= 1024;
+        rule[1] *= factor;
     }
     tables
 }

@@ -3,6 +3,9 @@
 use crate::rights::answer_name;
 use model::call::Call;
 
+/// The cells of every report: Linux names no layer, so numbers alone are compared.
+pub const NO_REPORT: u64 = 0;
+
 /// The call as a line of a scenario.
 pub fn line(call: &Call) -> String {
     if let Call::CreateRuleset { bytes, flags } = call {
@@ -16,9 +19,12 @@ pub fn line(call: &Call) -> String {
     format!("{} {}", call.name(), words.join(" "))
 }
 
-/// The arguments as a scenario writes them: the entry that a rename replaces stands there or not.
+/// The arguments as a scenario writes them: the entry that a rename replaces stands there or not, a report's length does not.
 fn written_numbers(call: &Call) -> Vec<u64> {
     let mut numbers = call.numbers();
+    if call.report_length().is_some() {
+        numbers.pop();
+    }
     match call {
         Call::Rename { replaces: 0, .. } => numbers.truncate(3),
         Call::Rename { .. } => {

@@ -347,6 +347,7 @@ fn not_a_device(d: &Answers) -> bool {
 #[cfg(test)]
 mod tests {
     use super::*;
+    use crate::call::NO_REPORT;
     use model::refusal::returned;
     use model::state::Model;
 
@@ -379,6 +380,7 @@ mod tests {
             thread: FREE,
             directory,
             kind,
+            report: NO_REPORT,
         };
         let create_ruleset = |masks: &[u64]| Call::CreateRuleset {
             bytes: masks.iter().flat_map(|mask| mask.to_le_bytes()).collect(),
@@ -432,7 +434,7 @@ mod tests {
             tables: &tables,
             call,
             ours,
-            by_domain: returned(model.answer_by_domain(call)) as i64,
+            by_domain: returned(model.answer_by_domain(call).0) as i64,
             model: returned(model.answer(call).0) as i64,
             linux,
         })
@@ -448,6 +450,7 @@ mod tests {
             thread,
             entry,
             rights,
+            report: NO_REPORT,
         }
     }
 
@@ -459,6 +462,7 @@ mod tests {
             directory: 0,
             replaces: 1,
             entry: UPPER,
+            report: NO_REPORT,
         }
     }
 
@@ -575,6 +579,7 @@ mod tests {
             directory,
             replaces: 0,
             entry: 0,
+            report: NO_REPORT,
         }
     }
 

@@ -1,6 +1,7 @@
 //! Random calls that make sense on both sides.
 
 use crate::broker::Broker;
+use crate::call::NO_REPORT;
 use crate::machine::Machine;
 use crate::rights::*;
 use model::call::Call;
@@ -152,6 +153,7 @@ impl Generator<'_> {
             thread,
             entry,
             rights,
+            report: NO_REPORT,
         }
     }
 
@@ -200,6 +202,7 @@ impl Generator<'_> {
             thread: self.thread(),
             port: self.random.pick(&PORTS),
             rights,
+            report: NO_REPORT,
         }
     }
 
@@ -208,6 +211,7 @@ impl Generator<'_> {
             thread: self.thread(),
             directory: self.directory(),
             kind: self.kind(),
+            report: NO_REPORT,
         }
     }
 
@@ -215,6 +219,7 @@ impl Generator<'_> {
         Call::Remove {
             thread: self.thread(),
             entry: self.entry(),
+            report: NO_REPORT,
         }
     }
 
@@ -227,6 +232,7 @@ impl Generator<'_> {
             thread: self.thread(),
             source,
             directory: self.directory(),
+            report: NO_REPORT,
         }
     }
 
@@ -247,6 +253,7 @@ impl Generator<'_> {
             directory,
             replaces,
             entry: replaced,
+            report: NO_REPORT,
         }
     }
 
@@ -258,6 +265,7 @@ impl Generator<'_> {
             source: self.entry(),
             directory: self.directory_of(entry, directory),
             entry,
+            report: NO_REPORT,
         }
     }
 

@@ -1,5 +1,6 @@
 //! Scenarios that fill one table to its end.
 
+use crate::call::NO_REPORT;
 use crate::kernel::MAX_KERNEL_DOMAIN;
 use crate::rights::*;
 use crate::scenario::{Scenario, Stop};
@@ -28,6 +29,7 @@ pub fn drop_chains(scenario: &mut Scenario, times: usize) -> Result<(), Stop> {
             thread: 1,
             entry,
             rights: READ_DIR,
+            report: NO_REPORT,
         })?;
         scenario.ask(Call::End { thread: 1 })?;
     }
@@ -50,6 +52,7 @@ fn add_rules(scenario: &mut Scenario, number: usize) -> Result<(), Stop> {
             thread: 0,
             directory: 0,
             kind: DIRECTORY,
+            report: NO_REPORT,
         })?;
         scenario.ask(Call::AddPathRule {
             ruleset: 0,

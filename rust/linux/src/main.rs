@@ -124,6 +124,10 @@ fn supervise(arguments: &Arguments) -> ExitCode {
 /// Plays the scenarios in the directory; the exit status.
 fn play(arguments: &Arguments, directory: &str) -> u8 {
     sys::umask(0);
+    // Both are for speed, and do no harm where they fail: ext4 looks for a number through all files removed in the last minutes
+    // when it makes one, and of the threads one runs at a time, each woken by the one before.
+    sys::mount_memory(directory);
+    sys::stay_on_processor();
     env::set_current_dir(directory).unwrap_or_else(|error| panic!("{directory}: {error}"));
     let machine = Machine::probe(directory);
     println!(

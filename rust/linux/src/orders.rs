@@ -1,5 +1,6 @@
 //! Scenarios in which several refusals of a ruleset call hold at once, in every combination.
 
+use crate::call::NO_REPORT;
 use crate::rights::*;
 use crate::scenario::{Scenario, Stop};
 use model::call::Call;
@@ -15,11 +16,13 @@ pub fn play(scenario: &mut Scenario) -> Result<(), Stop> {
         thread: 0,
         directory: 0,
         kind: DIRECTORY,
+        report: NO_REPORT,
     })?;
     scenario.ask(Call::Create {
         thread: 0,
         directory: 0,
         kind: REGULAR,
+        report: NO_REPORT,
     })?;
     let [_, net, _] = known(scenario.tables.level());
     let bytes = [READ_FILE | READ_DIR, net & BIND_TCP]

@@ -1,7 +1,7 @@
 //! One scenario: the same tree, rulesets and calls on both sides.
 
 use crate::broker::Broker;
-use crate::call::{answer_text, line, may_change};
+use crate::call::{answer_text, line, may_change, NO_REPORT};
 use crate::differences::{compare, Answers, Comparison};
 use crate::generate::Generator;
 use crate::kernel::{kind_of, Kernel};
@@ -100,6 +100,7 @@ impl<'a> Scenario<'a> {
             thread: 0,
             directory: 0,
             kind: DIRECTORY,
+            report: NO_REPORT,
         })?;
         for _ in 0..self.random.between(6, 30) {
             self.ask_any(|g| g.growth())?;
@@ -140,7 +141,7 @@ impl<'a> Scenario<'a> {
     pub fn ask(&mut self, call: Call) -> Result<(), Stop> {
         let before = self.tables.clone();
         let ours = self.tables.ask(&call);
-        let by_domain = returned(self.model.answer_by_domain(&call)) as i64;
+        let by_domain = returned(self.model.answer_by_domain(&call).0) as i64;
         let model = returned(self.model.answer(&call).0) as i64;
         let (operation, linux) = self.kernel.perform(&before, &call);
         self.lines.push(format!(

@@ -31,6 +31,8 @@ const SIGINT: c_int = 2;
 const RLIMIT_NOFILE: c_int = 7;
 const AF_INET: u16 = 2;
 const SOCK_STREAM: c_int = 1;
+const CLONE_NEWNS: c_int = 0x20000;
+const MS_PRIVATE_AND_BELOW: c_ulong = 0x40000 | 0x4000;
 
 #[repr(C)]
 struct Rlimit {
@@ -51,6 +53,9 @@ struct CapabilityHeader {
     version: u32,
     pid: c_int,
 }
+
+/// A set of processors, a bit for each.
+type Processors = [u64; 16];
 
 /// The effective, permitted and inheritable capabilities, in two halves.
 type Capabilities = [[u32; 3]; 2];
@@ -104,6 +109,16 @@ extern "C" {
     fn setrlimit(resource: c_int, limit: *const Rlimit) -> c_int;
     #[link_name = "fork"]
     fn fork_process() -> c_int;
+    fn unshare(flags: c_int) -> c_int;
+    fn mount(
+        source: *const c_char,
+        target: *const c_char,
+        file_system: *const c_char,
+        flags: c_ulong,
+        data: *const c_void,
+    ) -> c_int;
+    fn sched_getcpu() -> c_int;
+    fn sched_setaffinity(pid: c_int, size: usize, processors: *const Processors) -> c_int;
     fn waitpid(pid: c_int, status: *mut c_int, options: c_int) -> c_int;
     #[link_name = "alarm"]
     fn set_alarm(seconds: c_uint) -> c_uint;
@@ -311,6 +326,44 @@ pub fn fork() -> i64 {
         process_control(PR_SET_PDEATHSIG, SIGKILL);
     }
     pid
+}
+
+/// Puts a file system in memory at a directory, which this process and its children alone see; 0 or why there is none.
+pub fn mount_memory(directory: &str) -> i64 {
+    let unshared = answer(unsafe { unshare(CLONE_NEWNS) });
+    if unshared != 0 {
+        return unshared;
+    }
+    // Without this the others would see it too.
+    let private = mount_at("/", "none", MS_PRIVATE_AND_BELOW);
+    if private != 0 {
+        return private;
+    }
+    mount_at(directory, "tmpfs", 0)
+}
+
+fn mount_at(target: &str, file_system: &str, flags: c_ulong) -> i64 {
+    let (target, name) = (c_path(target), c_path(file_system));
+    let nothing = std::ptr::null();
+    answer(unsafe {
+        mount(
+            name.as_ptr(),
+            target.as_ptr(),
+            name.as_ptr(),
+            flags,
+            nothing,
+        )
+    })
+}
+
+/// Keeps this process and its threads on the processor where it is.
+pub fn stay_on_processor() -> i64 {
+    let mut processors: Processors = [0; 16];
+    let number = usize::try_from(unsafe { sched_getcpu() }).unwrap_or(0);
+    if let Some(part) = processors.get_mut(number / 64) {
+        *part |= 1 << (number % 64);
+    }
+    answer(unsafe { sched_setaffinity(0, size_of::<Processors>(), &processors) })
 }
 
 /// Waits for a child; its exit status, or none if a signal ended it.

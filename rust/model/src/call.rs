@@ -76,28 +76,54 @@ calls! {
     SetNoNewPrivs "set_no_new_privs" { thread } => model.set_no_new_privs(thread);
     /// Sets the admin mark, or clears it where `on` is 0.
     SetAdmin "set_admin" { thread, on } => model.set_admin(thread, on != 0);
-    Access "access" { thread, entry, rights } => model.access(thread, entry, rights);
-    Port "port" { thread, port, rights } => model.port(thread, port, rights);
-    Create "create" { thread, directory, kind } => model.create(thread, directory, kind);
-    Remove "remove" { thread, entry } => model.remove(thread, entry);
-    Link "link" { thread, source, directory } => model.link(thread, source, directory);
+    Access "access" { thread, entry, rights, report } => model.access(thread, entry, rights);
+    Port "port" { thread, port, rights, report } => model.port(thread, port, rights);
+    Create "create" { thread, directory, kind, report } => model.create(thread, directory, kind);
+    Remove "remove" { thread, entry, report } => model.remove(thread, entry);
+    Link "link" { thread, source, directory, report } => model.link(thread, source, directory);
     /// Renames in place of `entry`, or of nothing where `replaces` is 0.
-    Rename "rename" { thread, source, directory, replaces, entry }
+    Rename "rename" { thread, source, directory, replaces, entry, report }
         => model.rename(thread, source, directory, (replaces != 0).then_some(entry));
-    Exchange "exchange" { thread, source, directory, entry }
+    Exchange "exchange" { thread, source, directory, entry, report }
         => model.exchange(thread, source, directory, entry);
 }
+
+/// The cells that a report has to say.
+pub const REPORTED: u64 = 2;
 
 /// What the cells of a report hold before a call.
 pub const UNWRITTEN: u64 = 0x5555_5555_5555_5555;
 
 impl Call {
+    /// The cells that a call has to report into, if it reports something.
+    pub fn report_length(&self) -> Option<u64> {
+        match *self {
+            Call::LayerRules { report, .. }
+            | Call::Access { report, .. }
+            | Call::Port { report, .. }
+            | Call::Create { report, .. }
+            | Call::Remove { report, .. }
+            | Call::Link { report, .. }
+            | Call::Rename { report, .. }
+            | Call::Exchange { report, .. } => Some(report),
+            _ => None,
+        }
+    }
+
+    /// The call with a report of so many cells, if it reports something.
+    pub fn with_report(mut self, length: u64) -> Call {
+        if self.report_length().is_some() {
+            // It is the last number of each call that has one.
+            if let Some(report) = self.numbers_mut().pop() {
+                *report = length;
+            }
+        }
+        self
+    }
+
     /// The cells of the call's report before it; none for a call without one.
     pub fn unwritten_report(&self) -> Vec<u64> {
-        match *self {
-            Call::LayerRules { report, .. } => vec![UNWRITTEN; report as usize],
-            _ => Vec::new(),
-        }
+        vec![UNWRITTEN; self.report_length().unwrap_or(0) as usize]
     }
 
     /// The cells of the call's report after it, where it says these numbers: those that fit are
@@ -133,14 +159,20 @@ pub trait Broker {
 }
 
 impl Model {
-    /// Answers a call; for a layer's rules with a report of their first cell in the pool and their
-    /// number of cells.
+    /// Answers a call, with every cell of its report.
     pub fn answer(&mut self, call: &Call) -> (Answer, Vec<u64>) {
-        let (place, count) = match *call {
-            Call::LayerRules { layer, .. } => self.layer_rules(layer).unwrap_or_default(),
-            _ => (0, 0),
-        };
-        let report = call.report_of([3 * place as u64, 3 * count as u64]);
-        (self.answer_number(call), report)
+        let answer = self.answer_number(call);
+        (answer, call.report_of(self.reported(call, answer)))
+    }
+
+    /// What a call that was answered so reports: where a layer's rules stand, as their first cell in the
+    /// pool and their number of cells; or which layer refused, as its number + 1, and its set.
+    fn reported(&self, call: &Call, answer: Answer) -> [u64; 2] {
+        if let Call::LayerRules { layer, .. } = *call {
+            let (place, count) = self.layer_rules(layer).unwrap_or_default();
+            return [place, count].map(|number| 3 * number as u64);
+        }
+        let denial = answer.err().and_then(|refusal| self.denial(call, refusal));
+        denial.map_or([0, 0], |denial| [denial.layer as u64 + 1, denial.rights.0])
     }
 }

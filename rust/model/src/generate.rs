@@ -204,8 +204,13 @@ impl Choose<'_> {
             Some(layer) if self.random.chance(75) => layer + self.random.below(6) / 5,
             _ => self.random.edge(),
         };
-        let report = self.random.pick(&[0, 1, 1, 2, 2, 2, 3, 3, 9]);
+        let report = self.report();
         Call::LayerRules { layer, report }
+    }
+
+    /// The length of a report, in cells.
+    fn report(&mut self) -> u64 {
+        self.random.pick(&[0, 1, 1, 2, 2, 2, 3, 3, 5])
     }
 
     fn clone_thread(&mut self) -> Call {
@@ -240,6 +245,7 @@ impl Choose<'_> {
             thread,
             entry,
             rights,
+            report: self.report(),
         }
     }
 
@@ -255,6 +261,7 @@ impl Choose<'_> {
             thread,
             port,
             rights,
+            report: self.report(),
         }
     }
 
@@ -274,13 +281,19 @@ impl Choose<'_> {
             thread,
             directory,
             kind,
+            report: self.report(),
         }
     }
 
     fn remove(&mut self) -> Call {
         let thread = self.thread();
         let entry = self.entry();
-        Call::Remove { thread, entry }
+        let report = self.report();
+        Call::Remove {
+            thread,
+            entry,
+            report,
+        }
     }
 
     fn link(&mut self) -> Call {
@@ -295,6 +308,7 @@ impl Choose<'_> {
             thread,
             source,
             directory,
+            report: self.report(),
         }
     }
 
@@ -308,6 +322,7 @@ impl Choose<'_> {
             directory,
             replaces,
             entry,
+            report: self.report(),
         }
     }
 
@@ -319,6 +334,7 @@ impl Choose<'_> {
             source,
             directory,
             entry,
+            report: self.report(),
         }
     }
 

@@ -5,6 +5,21 @@ use crate::refusal::{Answer, Refusal};
 use crate::rights::Rights;
 use crate::state::{Key, Layer, Model, MAX_PORT};
 
+/// An entry that goes from a directory to another one.
+#[derive(Clone, Copy)]
+pub struct Move {
+    pub entry: u64,
+    pub from: u64,
+    pub to: u64,
+}
+
+impl Layer {
+    /// The rights that it handles and doesn't grant a port.
+    pub fn denied_at_port(&self, port: u64) -> Rights {
+        self.masks.net.without(self.rules.granted(Key::Port(port)))
+    }
+}
+
 impl Model {
     pub fn access(&self, thread: u64, entry: u64, mask: u64) -> Answer {
         let youngest = self.thread(thread)?.youngest;
@@ -27,8 +42,7 @@ impl Model {
         let mask = known_mask(mask, Rights::NETWORK)?;
         let denied = self.domain(youngest).into_iter().any(|number| {
             let layer = &self.layers[&number];
-            let granted = layer.rules.granted(Key::Port(port));
-            layer.masks.net.without(granted).meets(mask)
+            layer.denied_at_port(port).meets(mask)
         });
         if denied {
             return Err(Refusal::AccessDenied);
@@ -57,31 +71,33 @@ impl Model {
         denied.fold(Rights::NONE, Rights::join)
     }
 
-    /// Whether no layer of the domain would deny less of the moved entry at `to` than at `from`,
-    /// its own rule on the moved object aside.
-    pub fn contained(&self, youngest: Option<usize>, moved: u64, from: u64, to: u64) -> bool {
-        let moved = self.entries[&moved];
-        self.domain(youngest).into_iter().all(|number| {
-            let layer = &self.layers[&number];
-            let own = layer.rules.granted(Key::Object(moved.object));
-            self.denied(layer, from)
-                .common(moved.kind.rights())
-                .without(own)
-                .within(self.denied(layer, to))
-        })
+    /// What fails containment in a layer: denied where the entry is, not granted by the rule on its
+    /// own object, and not denied where it goes.
+    pub fn failing(&self, layer: &Layer, moved: Move) -> Rights {
+        let entry = self.entries[&moved.entry];
+        self.denied(layer, moved.from)
+            .common(entry.kind.rights())
+            .without(layer.rules.granted(Key::Object(entry.object)))
+            .without(self.denied(layer, moved.to))
+    }
+
+    /// Whether nothing fails containment in any layer of the domain.
+    pub fn contained(&self, youngest: Option<usize>, moved: Move) -> bool {
+        let mut domain = self.domain(youngest).into_iter();
+        domain.all(|number| self.failing(&self.layers[&number], moved).is_empty())
     }
 }
 
 /// Linux's own rule of REFER, which request W3 words otherwise.
 impl Model {
-    /// How a call is answered if every layer of a domain handles REFER as soon as one of them has a
+    /// How a call is answered, and what it reports, if every layer of a domain handles REFER as soon as one of them has a
     /// file system mask, as in Linux 6.18.
-    pub fn answer_by_domain(&self, call: &Call) -> Answer {
+    pub fn answer_by_domain(&self, call: &Call) -> (Answer, Vec<u64>) {
         let mut model = self.clone();
         if let Some(thread) = judged_thread(call).and_then(|thread| self.threads.get(&thread)) {
             model.handle_refer(self.domain(thread.youngest));
         }
-        model.answer(call).0
+        model.answer(call)
     }
 
     fn handle_refer(&mut self, domain: Vec<usize>) {

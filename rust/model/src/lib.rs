@@ -1,8 +1,8 @@
 //! An independent program that answers as document 01 and the requests of document 02 say, written
 //! from the papers alone, and the means to compare it with another broker over the same tables.
 //!
-//! The model is [`state`] with the calls in [`rulesets`], [`threads`], [`judge`] and [`tree`];
-//! [`tables`] and [`sound`] convert between it and cells. The comparison is [`compare`], fed by
+//! The model is [`state`] with the calls in [`rulesets`], [`threads`], [`judge`] and [`tree`], and
+//! what a refused verdict names in [`denial`]; [`tables`] and [`sound`] convert between it and cells. The comparison is [`compare`], fed by
 //! [`start`], [`generate`], [`damage`], [`odd`] and [`attributes`], and by [`long_run`] with very
 //! many calls on the same tables; a difference is made short by [`shrink`] and printed by [`scenario`].
 
@@ -10,6 +10,7 @@ pub mod attributes;
 pub mod call;
 pub mod compare;
 pub mod damage;
+pub mod denial;
 pub mod generate;
 pub mod judge;
 pub mod long_run;

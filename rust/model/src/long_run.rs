@@ -1,10 +1,11 @@
 //! Very many calls on the same tables: threads are cloned, restricted and ended again and again, and
-//! the tables are full only while live threads fill them.
+//! the tables are full only while live threads fill them. Requests between these name layers of chains
+//! whose numbers are in any order.
 
 use crate::call::{Broker, Call, Reply};
 use crate::compare::{Case, Step};
 use crate::refusal::Refusal;
-use crate::state::{Model, MAX_LAYERS, MAX_THREADS, POOL_PLACES};
+use crate::state::{Model, MAX_LAYERS, MAX_THREADS, POOL_PLACES, ROOT};
 use crate::tables::{encode, Tables};
 use crate::tally::Tally;
 use random::Random;
@@ -12,7 +13,9 @@ use random::Random;
 /// The calls between two comparisons of all cells.
 const SPAN: usize = 100;
 /// The calls between two changes of what is called most.
-const PHASE: usize = 700;
+const PHASE: usize = 800;
+/// How many in a hundred calls are requests.
+const REQUESTS: u64 = 10;
 /// The rules of the rulesets that layers are made of.
 const RULES: [u64; 12] = [0, 0, 0, 1, 1, 2, 3, 5, 13, 34, 63, 64];
 const LEVEL: u64 = 6;
@@ -57,12 +60,38 @@ fn beginning() -> Model {
             let handled = [1u64, 3].into_iter().flat_map(u64::to_le_bytes);
             let ruleset = model.create_ruleset(&handled.collect::<Vec<u8>>(), 0)?;
             (0..*count).try_fold(0, |_, port| {
-                model.add_port_rule(ruleset, 100 * ruleset + port, 1 + port % 3, 0)
+                model.add_port_rule(ruleset, port_of(ruleset, port), 1 + port % 3, 0)
             })
         })
     });
     assert_eq!(ready, Ok(0));
     model
+}
+
+/// The port of a rule of a ruleset.
+fn port_of(ruleset: u64, rule: u64) -> u64 {
+    100 * ruleset + rule
+}
+
+/// A request that some layers grant.
+fn request(thread: u64, random: &mut Random) -> Call {
+    let report = random.pick(&[0, 1, 2, 3, 5]);
+    if random.chance(20) {
+        let rights = random.pick(&[1, 2, 0x2001]);
+        return Call::Access {
+            thread,
+            entry: ROOT,
+            rights,
+            report,
+        };
+    }
+    let ruleset = random.below(RULES.len() as u64);
+    Call::Port {
+        thread,
+        port: port_of(ruleset, random.below(64)),
+        rights: random.between(1, 3),
+        report,
+    }
 }
 
 /// What is called most for a while.
@@ -101,6 +130,9 @@ impl Phase {
             Phase::Mixed => (30, 45),
             Phase::Ends => (20, 20),
         };
+        if random.chance(REQUESTS) {
+            return request(random.pick(&live), random);
+        }
         let sort = random.below(100);
         if sort < clones || others.is_empty() && random.chance(95) {
             let thread = match bare {

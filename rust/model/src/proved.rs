@@ -55,11 +55,12 @@ fn cells(tables: &mut Tables) -> Cells<'_> {
     }
 }
 
-/// Calls the core's function for each of the calls; listed are those with numbers alone that may change the tables.
+/// Calls the core's function for each of the calls; listed are those that may change the tables, with `report` last where they
+/// have one.
 macro_rules! core_answer {
     (
         $tables:ident, $call:ident, $report:ident;
-        $($variant:ident $function:ident($($field:ident),*);)*
+        $($variant:ident $function:ident($($field:ident),*) $($reported:ident)?;)*
     ) => {
         match *$call {
             Call::CreateRuleset { ref bytes, flags } => {
@@ -68,13 +69,15 @@ macro_rules! core_answer {
             Call::LayerRules { layer, .. } => {
                 skeinrabbit_sys::layer_rules($tables.shared(), layer, $report)
             }
-            Call::Access { thread, entry, rights } => {
-                skeinrabbit_sys::access($tables.shared(), thread, entry, rights)
+            Call::Access { thread, entry, rights, .. } => {
+                skeinrabbit_sys::access($tables.shared(), thread, entry, rights, $report)
             }
-            Call::Port { thread, port, rights } => {
-                skeinrabbit_sys::port($tables.shared(), thread, port, rights)
+            Call::Port { thread, port, rights, .. } => {
+                skeinrabbit_sys::port($tables.shared(), thread, port, rights, $report)
             }
-            $(Call::$variant { $($field),* } => skeinrabbit_sys::$function($tables, $($field),*),)*
+            $(Call::$variant { $($field,)* .. } => {
+                skeinrabbit_sys::$function($tables, $($field,)* $($reported)?)
+            })*
         }
     };
 }
@@ -91,10 +94,10 @@ fn core_answer(tables: &mut Cells, call: &Call, report: &mut [u64]) -> u64 {
         End end(thread);
         SetNoNewPrivs set_no_new_privs(thread);
         SetAdmin set_admin(thread, on);
-        Create create(thread, directory, kind);
-        Remove remove(thread, entry);
-        Link link(thread, source, directory);
-        Rename rename(thread, source, directory, replaces, entry);
-        Exchange exchange(thread, source, directory, entry);
+        Create create(thread, directory, kind) report;
+        Remove remove(thread, entry) report;
+        Link link(thread, source, directory) report;
+        Rename rename(thread, source, directory, replaces, entry) report;
+        Exchange exchange(thread, source, directory, entry) report;
     }
 }

@@ -31,14 +31,12 @@ impl Reference {
         self.model.as_ref().map_err(|unsound| *unsound)
     }
 
-    /// Takes a step; the answer if it is a call.
-    pub fn take(&mut self, step: &Step) -> Option<Answer> {
+    pub fn take(&mut self, step: &Step) {
         match step {
-            Step::Call(call) => return Some(self.answer(call).0),
+            Step::Call(call) => drop(self.answer(call)),
             Step::Damage(pokes) => self.damage(pokes),
             Step::Resize { table, length } => self.resize(*table, *length),
         }
-        None
     }
 
     pub fn damage(&mut self, pokes: &[Poke]) {

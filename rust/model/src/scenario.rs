@@ -1,6 +1,6 @@
 //! A case as a scenario file, with what the two sides answered.
 
-use crate::call::{Call, Reply, UNWRITTEN};
+use crate::call::{Call, Reply, REPORTED, UNWRITTEN};
 use crate::compare::{Case, Difference, Step};
 use crate::damage::Poke;
 use crate::reference::Reference;
@@ -18,35 +18,38 @@ pub fn scenario(case: &Case, difference: &Difference) -> String {
     lines.extend(start_pokes(&case.start).iter().map(poke_line));
     let mut reference = Reference::new(&case.start);
     for step in &case.steps {
-        lines.extend(step_lines(step, reference.take(step)));
+        lines.extend(step_lines(step, &mut reference));
     }
     lines.extend(difference_lines(difference));
     lines.join("\n") + "\n"
 }
 
-/// The lines of a step, with the answer if it is a call.
-fn step_lines(step: &Step, answer: Option<Answer>) -> Vec<String> {
+/// The lines of a step that the model takes, with its answer if it is a call.
+fn step_lines(step: &Step, reference: &mut Reference) -> Vec<String> {
     match step {
         Step::Call(call) => {
-            let line = answer.map(|answer| call_line(call, answer));
-            report_line(call).into_iter().chain(line).collect()
+            let (answer, report) = reference.answer(&call.clone().with_report(REPORTED));
+            let line = call_line(call, answer, &report);
+            report_line(call).into_iter().chain([line]).collect()
         }
-        Step::Damage(pokes) => pokes.iter().map(poke_line).collect(),
-        Step::Resize { table, length } => vec![format!(
-            "# here the table {} is cut or filled with zeros to {length} cells",
-            table.name()
-        )],
+        Step::Damage(pokes) => {
+            reference.damage(pokes);
+            pokes.iter().map(poke_line).collect()
+        }
+        Step::Resize { table, length } => {
+            reference.resize(*table, *length);
+            vec![format!(
+                "# here the table {} is cut or filled with zeros to {length} cells",
+                table.name()
+            )]
+        }
     }
 }
 
 /// Says how long a report is that a scenario can't ask for.
 fn report_line(call: &Call) -> Option<String> {
-    match *call {
-        Call::LayerRules { report, .. } if report != 2 => {
-            Some(format!("# the report of this call has {report} cells"))
-        }
-        _ => None,
-    }
+    let length = call.report_length().filter(|length| *length != REPORTED);
+    length.map(|length| format!("# the report of this call has {length} cells"))
 }
 
 /// The pokes that make the start of fresh tables of its level.
@@ -70,7 +73,7 @@ fn poke_line(poke: &Poke) -> String {
     format!("poke {} {} {}", poke.table.name(), poke.cell, poke.value)
 }
 
-fn call_line(call: &Call, answer: Answer) -> String {
+fn call_line(call: &Call, answer: Answer, report: &[u64]) -> String {
     let mut line = call.name().to_string();
     if let Call::CreateRuleset { bytes, flags } = call {
         line += " hex=";
@@ -91,20 +94,30 @@ fn call_line(call: &Call, answer: Answer) -> String {
         Ok(number) => number.to_string(),
         Err(refusal) => format!("{:?}", refusal.errno()),
     };
-    format!("{line} => {expected}")
+    format!("{line} => {expected}{}", report_words(call, report))
+}
+
+/// What a verdict reports, as a scenario writes it.
+fn report_words(call: &Call, report: &[u64]) -> String {
+    match (call, report) {
+        (Call::LayerRules { .. }, _) | (_, []) => String::new(),
+        (_, [0, rights, ..]) => format!(" layer=none rights={rights}"),
+        (_, [layer, rights, ..]) => format!(" layer={} rights={rights}", layer - 1),
+        (_, [_]) => unreachable!("a report of one cell"),
+    }
 }
 
 /// The arguments as a scenario writes them: a rename's entry stands there or not, a report's length
 /// does not.
 fn written_numbers(call: &Call) -> Vec<u64> {
     match *call {
-        Call::LayerRules { layer, .. } => vec![layer],
         Call::Rename {
             thread,
             source,
             directory,
             replaces,
             entry,
+            ..
         } => {
             let mut numbers = vec![thread, source, directory];
             if replaces != 0 {
@@ -112,7 +125,11 @@ fn written_numbers(call: &Call) -> Vec<u64> {
             }
             numbers
         }
-        _ => call.numbers(),
+        _ => {
+            let mut numbers = call.numbers();
+            numbers.truncate(numbers.len() - usize::from(call.report_length().is_some()));
+            numbers
+        }
     }
 }
 

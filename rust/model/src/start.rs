@@ -335,7 +335,8 @@ fn uneven(entries: &[Entry], level: u64, free: usize, random: &mut Random) -> (M
     let masks = uneven_masks(level, random);
     let fs = masks.fs;
     let bits = [0, 1, 2, 3, 14, random.below(13)];
-    let uneven = Rights(1 << random.pick(&bits) | 1 << random.pick(&bits));
+    let [one, two] = [(); 2].map(|()| Rights(1 << random.pick(&bits)));
+    let uneven = one.join(two);
     let mut rules = Rules::default();
     let mut add = |entry: Entry, rights: Rights| {
         let rights = rights.common(entry.kind.rights());
@@ -345,7 +346,8 @@ fn uneven(entries: &[Entry], level: u64, free: usize, random: &mut Random) -> (M
     };
     add(entries[0], fs.without(uneven));
     for _ in 0..random.between(1, 8) {
-        add(random.pick(entries), fs.common(uneven));
+        let rights = random.pick(&[uneven, uneven, one, two]);
+        add(random.pick(entries), fs.common(rights));
     }
     (masks, rules)
 }

@@ -164,8 +164,11 @@ const REFUSALS: [(&str, &[Refusal]); 18] = [
     ),
 ];
 
-/// The lengths of reports, in cells, that are to be met with every answer.
-const REPORTS: [u64; 4] = [0, 1, 2, 3];
+/// The lengths of reports, in cells, that are to be met with every answer that says something.
+const REPORTS: [u64; 5] = [0, 1, 2, 3, 5];
+
+/// A call with a report: its name, the length of the report, why it was refused.
+type Report = (&'static str, u64, Option<Refusal>);
 
 /// The answers counted by call, the damage counted by the clause it breaks, and more that is to be
 /// met.
@@ -175,8 +178,8 @@ pub struct Tally {
     answers: BTreeMap<(&'static str, Option<Refusal>), u64>,
     /// Successes of a rename or exchange of one object with itself.
     same_object: BTreeMap<&'static str, u64>,
-    /// Reads of a layer's rules by the length of the report.
-    reports: BTreeMap<(u64, Option<Refusal>), u64>,
+    /// Calls with a report by its length.
+    reports: BTreeMap<Report, u64>,
     damages: BTreeMap<Unsound, u64>,
     harmless: u64,
     /// Calls on odd tables.
@@ -190,8 +193,9 @@ impl Tally {
         self.calls += 1;
         let refusal = answer.err();
         *self.answers.entry((call.name(), refusal)).or_default() += 1;
-        if let Call::LayerRules { report, .. } = *call {
-            *self.reports.entry((report, refusal)).or_default() += 1;
+        if let Some(length) = call.report_length() {
+            let report = (call.name(), length, refusal);
+            *self.reports.entry(report).or_default() += 1;
         }
     }
 
@@ -270,12 +274,24 @@ fn refusals() -> impl Iterator<Item = (&'static str, Refusal)> {
     })
 }
 
-/// Each length of a report with each answer.
-fn reports() -> impl Iterator<Item = (u64, Option<Refusal>)> {
-    let answers = [None, Some(NotSound), Some(LayerNotInUse)];
-    REPORTS
-        .into_iter()
-        .flat_map(move |length| answers.map(|answer| (length, answer)))
+/// Each call with a report, with each length and each answer that the report depends on: a success,
+/// a refusal by the verdict, tables that aren't sound.
+fn reports() -> impl Iterator<Item = Report> {
+    const SAID: [Refusal; 5] = [
+        LayerNotInUse,
+        AccessDenied,
+        ReferDenied,
+        NotContained,
+        OtherNotContained,
+    ];
+    let reporting = REFUSALS
+        .iter()
+        .filter(|(call, refusals)| *call == "layer_rules" || refusals.contains(&AccessDenied));
+    reporting.flat_map(|(call, refusals)| {
+        let refused = refusals.iter().filter(|refusal| SAID.contains(refusal));
+        let answers = refused.copied().chain([NotSound]).map(Some).chain([None]);
+        answers.flat_map(|answer| REPORTS.map(|length| (*call, length, answer)))
+    })
 }
 
 /// Each sort of odd tables with each call.
@@ -289,18 +305,15 @@ fn refusal_text(refusal: Refusal) -> String {
     format!("{:?} {refusal:?}", refusal.errno())
 }
 
-fn report_text((length, refusal): &(u64, Option<Refusal>)) -> String {
+fn report_text((call, length, refusal): &Report) -> String {
     let answer = refusal.map_or("success".to_string(), refusal_text);
-    format!("report of {length} cells, {answer}")
+    format!("{call} with a report of {length} cells, {answer}")
 }
 
 impl fmt::Display for Tally {
     fn fmt(&self, f: &mut fmt::Formatter) -> fmt::Result {
         self.write_answers(f)?;
-        writeln!(f, "layer_rules by the length of the report:")?;
-        for (report, count) in &self.reports {
-            writeln!(f, "    {} {count}", report_text(report))?;
-        }
+        self.write_reports(f)?;
         writeln!(
             f,
             "damaged cells that left the tables sound: {}",
@@ -335,6 +348,18 @@ impl Tally {
                     writeln!(f, "    {} {count}", refusal_text(*refusal))?;
                 }
             }
+        }
+        Ok(())
+    }
+
+    fn write_reports(&self, f: &mut fmt::Formatter) -> fmt::Result {
+        let mut lengths: BTreeMap<(&str, u64), u64> = BTreeMap::new();
+        for ((call, length, _), count) in &self.reports {
+            *lengths.entry((call, *length)).or_default() += count;
+        }
+        writeln!(f, "calls with a report by its length:")?;
+        for ((call, length), count) in lengths {
+            writeln!(f, "    {call} {length} {count}")?;
         }
         Ok(())
     }

@@ -1,13 +1,38 @@
 //! The calls that change the tree: create, remove, link, rename, exchange.
 
+use crate::judge::Move;
 use crate::refusal::{Answer, Refusal};
 use crate::rights::Rights;
 use crate::state::{lowest_free, Entry, Kind, Model, MAX_ENTRIES, OBJECTS_END, ROOT};
 
-/// The rights a call needs at the source's parent and at the target directory.
-struct Needs {
-    at_parent: Rights,
-    at_target: Rights,
+/// The rights a call needs at the source's parent and at the target directory, REFER aside.
+pub struct Needs {
+    pub at_parent: Rights,
+    pub at_target: Rights,
+}
+
+impl Needs {
+    pub fn of_link(linked: Kind) -> Needs {
+        Needs {
+            at_parent: Rights::NONE,
+            at_target: linked.make(),
+        }
+    }
+
+    pub fn of_rename(moved: Kind, replaced: Option<Kind>) -> Needs {
+        let remove_replaced = replaced.map_or(Rights::NONE, Kind::remove);
+        Needs {
+            at_parent: moved.remove(),
+            at_target: moved.make().join(remove_replaced),
+        }
+    }
+
+    pub fn of_exchange(k1: Kind, k2: Kind) -> Needs {
+        Needs {
+            at_parent: k1.remove().join(k2.make()),
+            at_target: k1.make().join(k2.remove()),
+        }
+    }
 }
 
 /// The entries that a call of two directories names.
@@ -62,12 +87,8 @@ impl Model {
         if linked.kind.is_directory() {
             return Err(Refusal::LinkOfDirectory);
         }
-        let needs = Needs {
-            at_parent: Rights::NONE,
-            at_target: linked.kind.make(),
-        };
-        self.verdict(&named, directory, needs)?;
-        self.moved_safely(named.youngest, source, linked.parent, directory)?;
+        self.verdict(&named, directory, Needs::of_link(linked.kind))?;
+        self.moved_safely(&named, source, directory)?;
         let number = self.free_entry()?;
         let parent = directory;
         self.entries.insert(number, Entry { parent, ..linked });
@@ -86,13 +107,9 @@ impl Model {
         self.child_of_target(&named, directory)?;
         self.not_above(source, directory, Refusal::SourceAboveTarget)?;
         let (moved, other) = (named.source, named.other);
-        let remove_other = other.map_or(Rights::NONE, |other| other.kind.remove());
-        let needs = Needs {
-            at_parent: moved.kind.remove(),
-            at_target: moved.kind.make().join(remove_other),
-        };
+        let needs = Needs::of_rename(moved.kind, other.map(|other| other.kind));
         self.verdict(&named, directory, needs)?;
-        self.moved_safely(named.youngest, source, moved.parent, directory)?;
+        self.moved_safely(&named, source, directory)?;
         if let (Some(number), Some(other)) = (replaced, other) {
             if other.object == moved.object {
                 return Ok(0);
@@ -111,14 +128,15 @@ impl Model {
         self.not_above(source, directory, Refusal::SourceAboveTarget)?;
         self.not_above(entry, parent, Refusal::OtherAboveSource)?;
         let other = self.entry(entry)?;
-        let (k1, k2) = (named.source.kind, other.kind);
-        let needs = Needs {
-            at_parent: k1.remove().join(k2.make()),
-            at_target: k1.make().join(k2.remove()),
-        };
+        let needs = Needs::of_exchange(named.source.kind, other.kind);
         self.verdict(&named, directory, needs)?;
-        self.moved_safely(named.youngest, source, parent, directory)?;
-        if !self.contained(named.youngest, entry, directory, parent) {
+        self.moved_safely(&named, source, directory)?;
+        let back = Move {
+            entry,
+            from: directory,
+            to: parent,
+        };
+        if !self.contained(named.youngest, back) {
             return Err(Refusal::OtherNotContained);
         }
         if other.object != named.source.object {
@@ -193,14 +211,13 @@ impl Model {
     }
 
     /// Refuses a move through which the moved entry or something below it would gain a right.
-    fn moved_safely(
-        &self,
-        youngest: Option<usize>,
-        moved: u64,
-        from: u64,
-        to: u64,
-    ) -> Result<(), Refusal> {
-        if self.contained(youngest, moved, from, to) {
+    fn moved_safely(&self, named: &Named, source: u64, directory: u64) -> Result<(), Refusal> {
+        let there = Move {
+            entry: source,
+            from: named.source.parent,
+            to: directory,
+        };
+        if self.contained(named.youngest, there) {
             Ok(())
         } else {
             Err(Refusal::NotContained)

@@ -12,6 +12,8 @@ use verdict::{fresh, sound, unsound};
 
 const REGULAR: u64 = 1;
 const DIRECTORY: u64 = 2;
+/// The cells of a report, more than are said.
+const REPORT: u64 = 5;
 /// A rule's type.
 const PORT: u64 = 2;
 /// A mask or a rule's rights.
@@ -54,11 +56,16 @@ fn create() -> Call {
         thread: 0,
         directory: 0,
         kind: REGULAR,
+        report: REPORT,
     }
 }
 
 fn remove(entry: u64) -> Call {
-    Call::Remove { thread: 0, entry }
+    Call::Remove {
+        thread: 0,
+        entry,
+        report: REPORT,
+    }
 }
 
 /// Links an entry into the root.
@@ -67,6 +74,7 @@ fn link(source: u64) -> Call {
         thread: 0,
         source,
         directory: 0,
+        report: REPORT,
     }
 }
 
@@ -77,6 +85,7 @@ fn rename(source: u64, directory: u64) -> Call {
         directory,
         replaces: 0,
         entry: 0,
+        report: REPORT,
     }
 }
 

@@ -2,16 +2,19 @@
 
 use model::call::{Broker, Call, Reply, UNWRITTEN};
 use model::compare::{compare, sweep, Case, Difference, Options, Step};
+use model::denial::Denial;
+use model::judge::Move;
 use model::long_run::long_run;
-use model::reference::Rereading;
+use model::reference::{Reference, Rereading};
 use model::refusal::{Errno, Refusal};
 use model::rights::{Masks, Rights};
 use model::scenario::scenario;
 use model::shrink::shrink;
 use model::sound::{check, Unsound};
-use model::state::{Key, Model};
+use model::state::{Key, Layer, Model};
 use model::tables::{encode_into, Table, Tables};
 use model::tally::Tally;
+use std::collections::BTreeMap;
 
 /// The first difference that a comparison finds, made short.
 fn found<B: Broker>(broker: &mut B) -> (Case, Difference) {
@@ -22,6 +25,19 @@ fn found<B: Broker>(broker: &mut B) -> (Case, Difference) {
     };
     let case = compare(broker, &options, &mut Tally::default());
     shortened(broker, case)
+}
+
+/// Whether a case is one call, or a few from fresh tables, where shrinking keeps what prepares it.
+fn is_short(case: &Case) -> bool {
+    let fresh = case.start == Model::fresh(case.start.level);
+    case.steps.len() == 1 || fresh && case.steps.len() <= 6
+}
+
+/// The layers that a case leaves.
+fn layers_of(case: &Case) -> BTreeMap<usize, Layer> {
+    let mut reference = Reference::new(&case.start);
+    case.steps.iter().for_each(|step| reference.take(step));
+    reference.model().unwrap().layers.clone()
 }
 
 fn shortened<B: Broker>(broker: &mut B, case: Option<Case>) -> (Case, Difference) {
@@ -41,7 +57,7 @@ impl Broker for OneContainment {
                     model.entries.get_mut(entry).unwrap().parent = one.parent;
                 }
                 encode_into(&model, tables);
-                return Reply::of(Ok(0), Vec::new());
+                return Reply::of(Ok(0), call.report_of([0, 0]));
             }
         }
         Rereading.answer(tables, call)
@@ -55,7 +71,7 @@ fn a_missing_containment_is_found() {
     assert_eq!(case.steps.len(), 1, "{text}");
     assert_eq!(case.start.layers.len(), 1, "{text}");
     assert!(case.start.entries.len() <= 5, "{text}");
-    assert!(text.contains("=> EXDEV\n"), "{text}");
+    assert!(text.contains("=> EXDEV layer="), "{text}");
 }
 
 /// Lets layers without a file system mask handle REFER where their masks are of a sort.
@@ -123,10 +139,9 @@ struct ReferByDomain;
 impl Broker for ReferByDomain {
     fn answer(&mut self, tables: &mut Tables, call: &Call) -> Reply {
         if let Ok(model) = check(tables) {
-            if let Err(refusal @ (Refusal::AccessDenied | Refusal::ReferDenied)) =
-                model.answer_by_domain(call)
-            {
-                return Reply::of(Err(refusal), Vec::new());
+            let (answer, report) = model.answer_by_domain(call);
+            if let Err(Refusal::AccessDenied | Refusal::ReferDenied) = answer {
+                return Reply::of(answer, report);
             }
         }
         Rereading.answer(tables, call)
@@ -159,7 +174,7 @@ impl Broker for Sweeping {
                 if (self.0)(rules.granted(root), Rights(*rights)) {
                     rules.add(root, Rights(*rights));
                     encode_into(&model, tables);
-                    return Reply::of(Ok(0), Vec::new());
+                    return Reply::of(Ok(0), call.report_of([0, 0]));
                 }
             }
         }
@@ -171,7 +186,7 @@ impl Broker for Sweeping {
 fn found_sweeping(test: fn(Rights, Rights) -> bool) {
     let (case, difference) = found(&mut Sweeping(test));
     let text = scenario(&case, &difference);
-    assert_eq!(case.steps.len(), 1, "{text}");
+    assert!(is_short(&case), "{text}");
     assert!(text.contains("=> EPERM\n"), "{text}");
 }
 
@@ -219,7 +234,7 @@ impl Broker for Careless {
     fn answer(&mut self, tables: &mut Tables, call: &Call) -> Reply {
         if check(tables) == Err(Unsound::RuleTwice) {
             if let Call::Access { .. } = call {
-                return Reply::of(Ok(0), Vec::new());
+                return Reply::of(Ok(0), call.report_of([0, 0]));
             }
         }
         Rereading.answer(tables, call)
@@ -231,8 +246,8 @@ fn a_missing_test_of_soundness_is_found() {
     let (case, difference) = found(&mut Careless);
     let text = scenario(&case, &difference);
     assert_eq!(case.steps.len(), 2, "{text}");
-    assert!(text.lines().count() <= 25, "{text}");
-    assert!(text.contains("=> EIO\n"), "{text}");
+    assert!(text.lines().count() <= 26, "{text}");
+    assert!(text.contains("=> EIO layer=none rights=0\n"), "{text}");
 }
 
 /// Answers EIO for tables of a sort that are sound.
@@ -288,7 +303,9 @@ struct Clauseless(Unsound);
 impl Broker for Clauseless {
     fn answer(&mut self, tables: &mut Tables, call: &Call) -> Reply {
         match call {
-            Call::Access { .. } if check(tables) == Err(self.0) => Reply::of(Ok(0), Vec::new()),
+            Call::Access { .. } if check(tables) == Err(self.0) => {
+                Reply::of(Ok(0), call.report_of([0, 0]))
+            }
             _ => Rereading.answer(tables, call),
         }
     }
@@ -301,7 +318,7 @@ fn clauses_about_layers_that_are_not_tested_are_found() {
         let (case, difference) = found(&mut Clauseless(clause));
         let text = scenario(&case, &difference);
         assert_eq!(case.steps.len(), 2, "{clause:?}: {text}");
-        assert!(text.contains("=> EIO\n"), "{clause:?}: {text}");
+        assert!(text.contains("=> EIO layer=none"), "{clause:?}: {text}");
     }
 }
 
@@ -325,7 +342,9 @@ fn found_rewriting(fault: impl Fn(&Call, &Tables, &mut Tables), layers: usize, t
     let text = scenario(&case, &difference);
     assert_eq!(case.steps.len(), 1, "{text}");
     assert_eq!(case.start.layers.len(), layers, "{text}");
-    assert_eq!(case.start.threads.len(), threads, "{text}");
+    // Thread 0 may be there beside them, as in fresh tables.
+    let left = case.start.threads.len();
+    assert!(left == threads || left == threads + 1, "{text}");
     assert!(!difference.cells.is_empty(), "{text}");
 }
 
@@ -532,7 +551,7 @@ fn a_look_at_the_first_cells_alone_is_found() {
     let text = scenario(&case, &difference);
     assert_eq!(case.steps.len(), 3, "{text}");
     assert!(text.contains("# here the table "), "{text}");
-    assert!(text.contains("=> EIO\n"), "{text}");
+    assert!(text.contains("=> EIO"), "{text}");
 }
 
 /// Grants every request where the lengths of two tables are wrong.
@@ -543,7 +562,7 @@ impl Broker for EvenLengths {
         let all = Table::ALL.into_iter();
         let wrong = all.filter(|table| tables.of(*table).len() != table.length());
         match call {
-            Call::Access { .. } if wrong.count() == 2 => Reply::of(Ok(0), Vec::new()),
+            Call::Access { .. } if wrong.count() == 2 => Reply::of(Ok(0), call.report_of([0, 0])),
             _ => Rereading.answer(tables, call),
         }
     }
@@ -643,6 +662,211 @@ fn a_short_report_left_out_is_found() {
     assert_eq!(case.steps.len(), 1, "{text}");
     assert_eq!(difference.broker.report, [UNWRITTEN], "{text}");
     assert!(text.contains("report of this call has 1 cells"), "{text}");
+}
+
+/// Names another layer or another set where a verdict refused; told are the layers with a set that is
+/// not empty, the youngest first.
+struct Naming(fn(&Model, &Call, &[Denial]) -> Denial);
+
+impl Naming {
+    /// What is named in place of the right layer and set.
+    fn wrong(&self, model: &Model, call: &Call) -> Option<Denial> {
+        let refusal = model.clone().answer(call).0.err()?;
+        let mut denials = model.denials(call, refusal);
+        denials.retain(|denial| !denial.rights.is_empty());
+        (!denials.is_empty()).then(|| (self.0)(model, call, &denials))
+    }
+}
+
+impl Broker for Naming {
+    fn answer(&mut self, tables: &mut Tables, call: &Call) -> Reply {
+        let wrong = check(tables)
+            .ok()
+            .and_then(|model| self.wrong(&model, call));
+        let mut reply = Rereading.answer(tables, call);
+        if let Some(denial) = wrong {
+            reply.report = call.report_of([denial.layer as u64 + 1, denial.rights.0]);
+        }
+        reply
+    }
+}
+
+/// A case of one call and so many layers in which the report alone differs.
+fn found_naming(name: fn(&Model, &Call, &[Denial]) -> Denial, layers: usize) -> Case {
+    let (case, difference) = found(&mut Naming(name));
+    let text = scenario(&case, &difference);
+    assert!(is_short(&case), "{text}");
+    assert_eq!(layers_of(&case).len(), layers, "{text}");
+    assert_eq!(difference.broker.number, difference.model.number, "{text}");
+    assert_ne!(difference.broker.report, difference.model.report, "{text}");
+    assert!(difference.cells.is_empty(), "{text}");
+    case
+}
+
+#[test]
+fn the_oldest_layer_is_found() {
+    let oldest = |_: &Model, _: &Call, denials: &[Denial]| denials[denials.len() - 1];
+    found_naming(oldest, 2);
+}
+
+/// Since request W13 the youngest layer need not have the largest number.
+#[test]
+fn the_layer_of_the_largest_number_is_found() {
+    let largest = |_: &Model, _: &Call, denials: &[Denial]| {
+        let denials = denials.iter().copied();
+        denials.max_by_key(|denial| denial.layer).unwrap()
+    };
+    let layers = layers_of(&found_naming(largest, 2));
+    let mut parents = layers.iter();
+    assert!(parents.any(|(number, layer)| layer.parent > Some(*number)));
+    let case = long_run(&mut Naming(largest), 1, 20_000, &mut Tally::default());
+    shortened(&mut Naming(largest), case);
+}
+
+#[test]
+fn the_set_of_the_whole_domain_is_found() {
+    let joined = |_: &Model, _: &Call, denials: &[Denial]| {
+        let sets = denials.iter().map(|denial| denial.rights);
+        Denial {
+            rights: sets.fold(Rights::NONE, Rights::join),
+            ..denials[0]
+        }
+    };
+    found_naming(joined, 2);
+}
+
+/// What a call moves between two directories.
+fn moves(model: &Model, call: &Call) -> Vec<Move> {
+    let parent = |entry: u64| model.entries[&entry].parent;
+    let there = |entry: u64, to: u64| {
+        let from = parent(entry);
+        Move { entry, from, to }
+    };
+    match *call {
+        Call::Link {
+            source, directory, ..
+        }
+        | Call::Rename {
+            source, directory, ..
+        } => vec![there(source, directory)],
+        Call::Exchange {
+            source,
+            directory,
+            entry,
+            ..
+        } => vec![there(source, directory), there(entry, parent(source))],
+        _ => Vec::new(),
+    }
+}
+
+#[test]
+fn refer_joined_to_what_fails_containment_is_found() {
+    let joined = |model: &Model, call: &Call, denials: &[Denial]| {
+        let Denial { layer, rights } = denials[0];
+        let failing = moves(model, call)
+            .into_iter()
+            .map(|moved| model.failing(&model.layers[&layer], moved));
+        match rights {
+            Rights::REFER => Denial {
+                layer,
+                rights: failing.fold(rights, Rights::join),
+            },
+            _ => denials[0],
+        }
+    };
+    found_naming(joined, 1);
+}
+
+#[test]
+fn one_move_of_an_exchange_is_found() {
+    let first = |model: &Model, call: &Call, denials: &[Denial]| {
+        let Denial { layer, rights } = denials[0];
+        let moves = moves(model, call).into_iter();
+        let failing = moves.map(|moved| model.failing(&model.layers[&layer], moved));
+        match failing.collect::<Vec<Rights>>()[..] {
+            [there, back] if there.join(back) == rights && !there.is_empty() => Denial {
+                layer,
+                rights: there,
+            },
+            _ => denials[0],
+        }
+    };
+    found_naming(first, 1);
+}
+
+#[test]
+fn refer_left_out_of_an_access_is_found() {
+    let without = |_: &Model, call: &Call, denials: &[Denial]| {
+        let Denial { layer, rights } = denials[0];
+        match call {
+            Call::Access { .. } => Denial {
+                layer,
+                rights: rights.without(Rights::REFER),
+            },
+            _ => denials[0],
+        }
+    };
+    found_naming(without, 1);
+}
+
+#[test]
+fn refer_joined_to_denied_needs_is_found() {
+    let with = |model: &Model, call: &Call, denials: &[Denial]| {
+        let Denial { layer, rights } = denials[0];
+        let denied = |at| {
+            model
+                .denied(&model.layers[&layer], at)
+                .common(Rights::REFER)
+        };
+        let ends = moves(model, call)
+            .into_iter()
+            .flat_map(|moved| [moved.from, moved.to].map(denied));
+        Denial {
+            layer,
+            rights: ends.fold(rights, Rights::join),
+        }
+    };
+    found_naming(with, 1);
+}
+
+/// The needs at one directory, where there are denied ones at both.
+#[test]
+fn the_needs_at_one_directory_are_found() {
+    let at_source = |model: &Model, call: &Call, denials: &[Denial]| {
+        let Denial { layer, rights } = denials[0];
+        let moves = moves(model, call);
+        let denied = |at| model.denied(&model.layers[&layer], at).common(rights);
+        match moves.first().map(|moved| denied(moved.from)) {
+            Some(rights) if !rights.is_empty() && !rights.meets(Rights::FILE) => {
+                Denial { layer, rights }
+            }
+            _ => denials[0],
+        }
+    };
+    found_naming(at_source, 1);
+}
+
+/// Writes a report only where a layer is named.
+struct SilentReport;
+
+impl Broker for SilentReport {
+    fn answer(&mut self, tables: &mut Tables, call: &Call) -> Reply {
+        let mut reply = Rereading.answer(tables, call);
+        let says_nothing = reply.report.first() == Some(&0);
+        if says_nothing && !matches!(call, Call::LayerRules { .. }) {
+            reply.report = call.unwritten_report();
+        }
+        reply
+    }
+}
+
+#[test]
+fn a_report_that_is_not_written_is_found() {
+    let (case, difference) = found(&mut SilentReport);
+    let text = scenario(&case, &difference);
+    assert_eq!(case.steps.len(), 1, "{text}");
+    assert_eq!(difference.model.report, [0], "{text}");
+    assert_eq!(difference.broker.report, [UNWRITTEN], "{text}");
 }
 
 /// Looks at the first bytes of an attribute alone.

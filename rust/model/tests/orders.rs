@@ -13,6 +13,8 @@ use model::tables::encode;
 
 const REGULAR: u64 = 1;
 const DIRECTORY: u64 = 2;
+/// The cells of a report, more than are said.
+const REPORT: u64 = 5;
 
 /// Directories 1 and 2, files 3 in 1 and 4 in 2, a directory 5 in 2 with a file 6; a ruleset 0.
 fn sample() -> Model {
@@ -179,6 +181,7 @@ fn a_sweeping_rule_that_is_there_stays() {
         thread: 0,
         entry: 0,
         rights: 0xffff,
+        report: REPORT,
     };
     unchanged(&model, access, Ok(0));
 }
@@ -284,6 +287,7 @@ fn requests_order() {
         thread,
         entry,
         rights,
+        report: REPORT,
     };
     refused(&model, access(8, 99, 0), ThreadNotLive);
     refused(&model, access(0, 99, 0), EntryNotLive);
@@ -295,6 +299,7 @@ fn requests_order() {
         thread,
         port,
         rights,
+        report: REPORT,
     };
     refused(&model, port(8, 65_536, 0), ThreadNotLive);
     refused(&model, port(0, 65_536, 0), PortOutOfRange);
@@ -315,6 +320,7 @@ fn create_order() {
         thread,
         directory,
         kind,
+        report: REPORT,
     };
     let mut model = sample();
     refused(&model, create(8, 99, 0), ThreadNotLive);
@@ -337,7 +343,11 @@ fn create_order() {
 
 #[test]
 fn remove_order() {
-    let remove = |thread, entry| Call::Remove { thread, entry };
+    let remove = |thread, entry| Call::Remove {
+        thread,
+        entry,
+        report: REPORT,
+    };
     let mut model = sample();
     refused(&model, remove(8, 99), ThreadNotLive);
     refused(&model, remove(0, 99), EntryNotLive);
@@ -354,6 +364,7 @@ fn link_order() {
         thread,
         source,
         directory,
+        report: REPORT,
     };
     let mut model = sample();
     refused(&model, link(8, 99, 99), ThreadNotLive);
@@ -381,6 +392,7 @@ fn rename(thread: u64, source: u64, directory: u64, entry: Option<u64>) -> Call 
         directory,
         replaces: entry.is_some().into(),
         entry: entry.unwrap_or(u64::MAX),
+        report: REPORT,
     }
 }
 
@@ -441,6 +453,7 @@ fn exchange(thread: u64, source: u64, directory: u64, entry: u64) -> Call {
         source,
         directory,
         entry,
+        report: REPORT,
     }
 }
 

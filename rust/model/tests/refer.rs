@@ -13,6 +13,8 @@ const EXECUTE: u64 = Rights::EXECUTE.0;
 const REFER: u64 = Rights::REFER.0;
 const REGULAR: u64 = 1;
 const DIRECTORY: u64 = 2;
+/// The cells of a report, more than are said.
+const REPORT: u64 = 5;
 
 /// The three masks of a layer, which grants all that its file system mask has in both directories.
 type Asked = [u64; 3];
@@ -63,17 +65,20 @@ fn requests() -> [Call; 5] {
         directory: 2,
         replaces: 0,
         entry: 0,
+        report: REPORT,
     };
     [
         Call::Access {
             thread: 0,
             entry: 1,
             rights: REFER,
+            report: REPORT,
         },
         Call::Link {
             thread: 0,
             source: 3,
             directory: 2,
+            report: REPORT,
         },
         rename(3),
         rename(5),
@@ -82,6 +87,7 @@ fn requests() -> [Call; 5] {
             source: 3,
             directory: 2,
             entry: 4,
+            report: REPORT,
         },
     ]
 }
@@ -99,7 +105,7 @@ fn answers(model: &Model) -> [u64; 5] {
 }
 
 fn answers_by_domain(model: &Model) -> [u64; 5] {
-    requests().map(|call| returned(model.answer_by_domain(&call)))
+    requests().map(|call| returned(model.answer_by_domain(&call).0))
 }
 
 #[test]

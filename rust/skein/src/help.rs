@@ -18,8 +18,9 @@ standard input.
 
 Commands
   run      plays FILE and prints each call with its answer: 0, the number of
-           what was made (new 5), or the error (EACCES). An answer that the
-           line does not allow is marked DIFFERS.
+           what was made (new 5), or the error (EACCES), and below it which
+           layer refused and for which rights. An answer that the line does
+           not allow is marked DIFFERS.
   explain  plays FILE without printing it, then draws the tree it leaves, with
            what each thread may do at each entry and port, asked of the broker
            right by right, and who holds each layer. If an answer differs, it
@@ -38,7 +39,7 @@ Options
   -V, --version the version
 
 Format (in full: docs/SCENARIO.md)
-  [repeat N] CALL ARGUMENT .. [-> NAME] [=> ANSWER]
+  [repeat N] CALL ARGUMENT .. [-> NAME] [=> ANSWER [layer=N] [rights=RIGHTS]]
   # a comment, to the end of the line
 
   repeat N makes the call N times, from 1 to 100,000, each with that answer.
@@ -46,6 +47,8 @@ Format (in full: docs/SCENARIO.md)
   => ANSWER says what the call must answer: a number, new N, an error's name
   (EACCES) or its negated number (-13); ok for any success, new for any that
   makes something, any for any answer at all. Without => the call must succeed.
+  layer=N and rights=RIGHTS say which layer must refuse and for which rights;
+  none and none where no layer does.
 
   Tables start fresh at level 6. A number is decimal or hexadecimal (0x1f). An
   entry, ruleset or thread is a number or a bound name; root is entry 0, main

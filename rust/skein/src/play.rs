@@ -1,12 +1,12 @@
 //! Plays a scenario on the broker.
 use crate::scenario::{
-    Answer, Bad, BadLine, Call, Masks, Move, Names, Operand, RulesetBytes, RulesetCall, Scenario,
-    Space, Statement, ThreadCall, TreeCall,
+    Answer, Bad, BadLine, Call, Mask, Masks, Move, Names, Operand, Report, RulesetBytes,
+    RulesetCall, Scenario, Space, Statement, ThreadCall, TreeCall,
 };
 use crate::words::quoted;
 use skeinrabbit::{
-    Attribute, Cells, Entry, Errno, Layer, Level, PortRights, Rights, Rule, Ruleset, Scopes, Table,
-    Tables, Thread,
+    Attribute, Cells, Entry, Errno, Layer, Level, PortRights, Refusal, Rights, Rule, Ruleset,
+    Scopes, Table, Tables, Thread,
 };
 
 /// Tables and names as the lines so far left them.
@@ -22,6 +22,8 @@ pub struct Played<'s> {
     pub round: u64,
     /// The answer of that round.
     pub answer: Answer,
+    /// Which layer refused in it, of a call with a verdict.
+    pub report: Option<Report>,
     /// The rules that `layer_rules` gave in it.
     pub rules: Vec<Rule>,
 }
@@ -29,7 +31,7 @@ pub struct Played<'s> {
 impl Played<'_> {
     /// Whether the answer is another than the line expects; a line that says nothing expects a success.
     pub fn differs(&self) -> bool {
-        !self.statement.allows(self.answer)
+        !self.statement.allows(self.answer, self.report)
     }
 }
 
@@ -91,6 +93,41 @@ fn new(result: Result<u64, Errno>) -> Answer {
     result.map_or_else(Answer::Refused, Answer::New)
 }
 
+/// An answer, and of a call with a verdict its report.
+type Said = (Answer, Option<Report>);
+
+/// The answer of a call with a verdict, and which layer refused for which rights.
+fn judged<R: Default>(result: Result<Answer, Refusal<R>>, mask: fn(R) -> Mask) -> Said {
+    let named = |layer, rights: R| {
+        let rights = mask(rights);
+        Some(Report { layer, rights })
+    };
+    match result {
+        Ok(answer) => (answer, named(None, R::default())),
+        Err(refusal) => {
+            let answer = Answer::Refused(refusal.errno());
+            let report = match refusal {
+                Refusal::Denied { layer, rights } | Refusal::Crossing { layer, rights } => {
+                    named(Some(layer), rights)
+                }
+                Refusal::Other(_) => named(None, R::default()),
+            };
+            (answer, report)
+        }
+    }
+}
+
+/// The answer of an access, or of a change that makes nothing.
+fn changed(result: Result<(), Refusal<Rights>>) -> Said {
+    judged(result.map(|()| Answer::Done), Mask::Files)
+}
+
+/// The answer of a change that makes an entry.
+fn made(result: Result<Entry, Refusal<Rights>>) -> Said {
+    let answer = result.map(|entry| Answer::New(entry.number()));
+    judged(answer, Mask::Files)
+}
+
 impl Player {
     fn new() -> Self {
         let mut tables = Tables::from_cells(Cells::zeroed());
@@ -114,13 +151,13 @@ impl Player {
 
     fn round<'s>(&mut self, statement: &'s Statement, round: u64) -> Result<Played<'s>, Bad> {
         let mut rules = Vec::new();
-        let answer = match &statement.call {
-            Call::Fresh { level } => done(self.tables.fresh(*level)),
-            Call::Ruleset(call) => self.ruleset_call(call)?,
-            Call::LayerRules { layer } => self.layer_rules(*layer, &mut rules),
+        let (answer, report) = match &statement.call {
+            Call::Fresh { level } => (done(self.tables.fresh(*level)), None),
+            Call::Ruleset(call) => (self.ruleset_call(call)?, None),
+            Call::LayerRules { layer } => (self.layer_rules(*layer, &mut rules), None),
             Call::Thread { thread, call } => self.thread_call(thread, call)?,
             Call::Tree { thread, call } => self.tree_call(thread, call)?,
-            Call::Poke { table, writes } => self.poke(*table, writes),
+            Call::Poke { table, writes } => (self.poke(*table, writes), None),
         };
         self.names.forget_gone(&self.tables);
         if let (Answer::New(number), Some((space, name))) = (answer, &statement.binds) {
@@ -130,6 +167,7 @@ impl Player {
             statement,
             round,
             answer,
+            report,
             rules,
         })
     }
@@ -186,37 +224,39 @@ impl Player {
         done(part.map(|part| rules.extend(part)))
     }
 
-    fn thread_call(&mut self, thread: &Operand, call: &ThreadCall) -> Result<Answer, Bad> {
+    fn thread_call(&mut self, thread: &Operand, call: &ThreadCall) -> Result<Said, Bad> {
         let thread = self.thread(thread)?;
-        Ok(match call {
+        let answer = match call {
             ThreadCall::Clone => new(self.tables.clone_thread(thread).map(Thread::number)),
             ThreadCall::End => done(self.tables.end(thread)),
             ThreadCall::SetNoNewPrivs => done(self.tables.set_no_new_privs(thread)),
             ThreadCall::SetAdmin { on } => done(self.tables.set_admin(thread, *on)),
             ThreadCall::Access { entry, rights } => {
                 let entry = self.entry(entry)?;
-                done(self.tables.access(thread, entry, *rights))
+                return Ok(changed(self.tables.access(thread, entry, *rights)));
             }
-            ThreadCall::Port { port, rights } => done(self.tables.port(thread, *port, *rights)),
-        })
+            ThreadCall::Port { port, rights } => {
+                let answer = self.tables.port(thread, *port, *rights);
+                return Ok(judged(answer.map(|()| Answer::Done), Mask::Ports));
+            }
+        };
+        Ok((answer, None))
     }
 
-    fn tree_call(&mut self, thread: &Operand, call: &TreeCall) -> Result<Answer, Bad> {
+    fn tree_call(&mut self, thread: &Operand, call: &TreeCall) -> Result<Said, Bad> {
         let thread = self.thread(thread)?;
         Ok(match call {
             TreeCall::Create { directory, kind } => {
                 let directory = self.entry(directory)?;
-                let entry = self.tables.create(thread, directory, *kind);
-                new(entry.map(Entry::number))
+                made(self.tables.create(thread, directory, *kind))
             }
             TreeCall::Remove { entry } => {
                 let entry = self.entry(entry)?;
-                done(self.tables.remove(thread, entry))
+                changed(self.tables.remove(thread, entry))
             }
             TreeCall::Link(moved) => {
                 let (source, directory) = self.ends(moved)?;
-                let entry = self.tables.link(thread, source, directory);
-                new(entry.map(Entry::number))
+                made(self.tables.link(thread, source, directory))
             }
             TreeCall::Rename(moved, replaced) => {
                 let (source, directory) = self.ends(moved)?;
@@ -224,12 +264,12 @@ impl Player {
                     .as_ref()
                     .map(|entry| self.entry(entry))
                     .transpose()?;
-                done(self.tables.rename(thread, source, directory, replaced))
+                changed(self.tables.rename(thread, source, directory, replaced))
             }
             TreeCall::Exchange(moved, entry) => {
                 let (source, directory) = self.ends(moved)?;
                 let entry = self.entry(entry)?;
-                done(self.tables.exchange(thread, source, directory, entry))
+                changed(self.tables.exchange(thread, source, directory, entry))
             }
         })
     }

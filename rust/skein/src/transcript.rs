@@ -3,9 +3,9 @@ use crate::json::Json;
 use crate::lines::{broken, Row};
 use crate::paint::Paint;
 use crate::play::{Play, Played};
-use crate::scenario::{Answer, Call, RulesetCall, Space};
+use crate::scenario::{Answer, Call, Mask, Report, RulesetCall, Space};
 use crate::words::shown;
-use skeinrabbit::{Errno, Rule};
+use skeinrabbit::{Errno, Layer, Rights, Rule};
 
 /// All calls, and how many answers differ.
 pub fn text(play: &Play, width: usize, paint: Paint) -> String {
@@ -72,6 +72,9 @@ pub fn reason(played: &Played) -> Option<String> {
     let Answer::Refused(errno) = played.answer else {
         return None;
     };
+    if let Some(denial) = denial(played) {
+        return Some(format!("{errno}: {denial}"));
+    }
     let reason = match (&played.statement.call, errno) {
         (Call::Ruleset(RulesetCall::Restrict { .. }), Errno::EPERM) => {
             "the thread has neither no_new_privs nor admin set"
@@ -83,6 +86,17 @@ pub fn reason(played: &Played) -> Option<String> {
         _ => errno.description(),
     };
     Some(format!("{errno}: {reason}"))
+}
+
+/// Which layer refused, and for which rights, in words.
+fn denial(played: &Played) -> Option<String> {
+    let (layer, rights) = named(played)?;
+    Some(match (played.answer, rights) {
+        (Answer::Refused(Errno::EXDEV), rights) if rights != Mask::Files(Rights::REFER) => {
+            format!("under layer {layer} the move would gain {rights}")
+        }
+        _ => format!("layer {layer} denies {rights}"),
+    })
 }
 
 /// How far a line that goes on is indented.
@@ -131,7 +145,7 @@ impl Layout {
         }
     }
 
-    /// A call with its answer, marked where it differs, and the rules of a layer below.
+    /// A call with its answer, marked where it differs. Below stand why it was refused and the rules of a layer.
     pub fn line(&self, played: &Played, paint: Paint) -> String {
         let statement = played.statement;
         let plain = str::to_owned;
@@ -144,20 +158,28 @@ impl Layout {
         if played.differs() {
             let verdict = format!("DIFFERS: {}", verdict(played));
             row.cell(self.verdict, &verdict, |text| paint.differing(text));
-            if let Some(reason) = reason(played) {
-                row.cell(indent, &reason, plain);
-            }
         } else if statement.names_an_answer() {
             row.cell(self.verdict, "ok", |text| paint.granted(text));
         }
         let mut out = row.end();
-        for rule in &played.rules {
+        for line in below(played) {
             let mut row = Row::new(indent + INDENT, self.width);
-            row.fill(indent, &rule_text(rule));
+            row.fill(indent, &line);
             out.push_str(&row.end());
         }
         out
     }
+}
+
+/// What stands below a call: why it was refused, if that differs or a layer did it, and the rules of a layer.
+fn below(played: &Played) -> Vec<String> {
+    let why = if played.differs() {
+        reason(played)
+    } else {
+        denial(played)
+    };
+    let rules = played.rules.iter().map(rule_text);
+    why.into_iter().chain(rules).collect()
 }
 
 /// The call and its arguments, with what is very long cut.
@@ -206,6 +228,7 @@ pub fn call_json(played: &Played) -> Json {
         Answer::New(number) => (Some(number), None),
         Answer::Refused(errno) => (None, Some(errno)),
     };
+    let (layer, rights) = named(played).unzip();
     let made = match (played.answer, &statement.binds) {
         (Answer::New(_), Some((space, name))) => Some((*space, name.as_str())),
         _ => None,
@@ -222,6 +245,11 @@ pub fn call_json(played: &Played) -> Json {
             "errno",
             Json::option(errno, |errno| Json::Number(errno.number().into())),
         ),
+        (
+            "layer",
+            Json::option(layer, |layer| Json::Number(layer.number())),
+        ),
+        ("rights", rights.map_or(Json::List(Vec::new()), mask_json)),
         ("bound", Json::option(made, bound_json)),
         (
             "expected",
@@ -232,6 +260,19 @@ pub fn call_json(played: &Played) -> Json {
         ("differs", Json::Bool(played.differs())),
         ("rules", Json::list(&played.rules, rule_json)),
     ])
+}
+
+/// The layer that refused, and for which rights.
+fn named(played: &Played) -> Option<(Layer, Mask)> {
+    let Report { layer, rights } = played.report?;
+    Some((layer?, rights))
+}
+
+fn mask_json(mask: Mask) -> Json {
+    match mask {
+        Mask::Files(rights) => rights_json(rights.iter()),
+        Mask::Ports(rights) => rights_json(rights.iter()),
+    }
 }
 
 fn bound_json((space, name): (Space, &str)) -> Json {

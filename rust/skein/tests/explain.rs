@@ -415,3 +415,43 @@ fn the_demo_is_one_json_document() {
     assert_eq!(document.at("run").at("differing").number(), 0);
     assert_eq!(document.at("explain").at("threads").list().len(), 4);
 }
+
+#[test]
+fn json_says_which_layer_denies_a_right() {
+    // Layer 0 denies all that it handles but read_dir at the root, layer 1 above it write_file and, unasked, refer.
+    let text = "\
+create_ruleset fs=read_file+write_file+read_dir net=bind_tcp -> older => new 0
+add_path_rule older root read_dir => 0
+create_ruleset fs=write_file net=connect_tcp -> younger => new 1
+set_no_new_privs main => 0
+restrict main older => 0
+restrict main younger => 0
+";
+    let document = json(&skein_with(&["explain", "--json", "-"], text.as_bytes()).out);
+    let thread = &document.at("threads").list()[0];
+    let by = |at: &Value| -> Vec<(u64, String)> {
+        let denying = at.at("by").list().iter();
+        let rights = |layer: &Value| layer.at("rights").texts().join("+");
+        denying
+            .map(|layer| (layer.at("layer").number(), rights(layer)))
+            .collect()
+    };
+    let [root] = thread.at("access").list() else {
+        panic!("one entry");
+    };
+    assert_eq!(root.at("granted").texts(), ["read_dir"]);
+    assert_eq!(
+        by(root),
+        [
+            (0, "read_file".to_owned()),
+            (1, "write_file+refer".to_owned())
+        ]
+    );
+    let [other] = thread.at("ports").list() else {
+        panic!("all ports alike");
+    };
+    assert_eq!(
+        by(other),
+        [(0, "bind_tcp".to_owned()), (1, "connect_tcp".to_owned())]
+    );
+}

@@ -304,6 +304,114 @@ fn json_has_the_documented_fields() {
     assert_eq!(again.at("differs"), &Value::Bool(true));
 }
 
+/// Two folders and a file, and a layer 0 under which it may be read in both, and in the other also written.
+const LAYERED: &str = "\
+create main root directory -> docs => new 1
+create main root directory -> drafts => new 2
+create main docs regular -> page => new 3
+create_ruleset fs=read_file+write_file+make_reg+refer net=bind_tcp -> rs => new 0
+add_path_rule rs docs read_file+refer => 0
+add_path_rule rs drafts read_file+write_file+refer+make_reg => 0
+set_no_new_privs main => 0
+restrict main rs => 0
+";
+
+#[test]
+fn a_refusal_says_which_layer_and_which_rights() {
+    let text = format!(
+        "{LAYERED}\
+access main page 6 => EACCES
+port main 80 3 => EACCES
+create main docs regular => EACCES
+link main page drafts => EXDEV
+rename main page root => EACCES layer=0
+rename main page drafts => EACCES
+access main page read_file => 0
+"
+    );
+    let ran = skein_with(&["run", "-"], text.as_bytes());
+    let shown: Vec<&str> = ran.out.lines().map(str::trim).collect();
+    let after = |call: &str| {
+        let place = shown.iter().rposition(|line| line.contains(call));
+        shown[place.expect(call) + 1]
+    };
+    assert_eq!(after("access main page 6"), "layer 0 denies write_file");
+    assert_eq!(after("port main 80 3"), "layer 0 denies bind_tcp");
+    assert_eq!(after("create main docs regular"), "layer 0 denies make_reg");
+    let gained = "under layer 0 the move would gain write_file";
+    assert_eq!(after("link main page drafts"), gained);
+    assert_eq!(after("rename main page root"), "layer 0 denies make_reg");
+    let wrong = "EXDEV: under layer 0 the move would gain write_file";
+    assert!(shown.contains(&wrong), "{}", ran.out);
+    assert_eq!(ran.code, 1, "{}", ran.out);
+    let explained = skein_with(&["explain", "-"], text.as_bytes());
+    let message = format!("expected EACCES, but answered {wrong}");
+    let messages = unbroken(&explained.err);
+    assert!(messages.contains(&message), "{messages}");
+}
+
+#[test]
+fn a_line_pins_the_layer_and_the_rights() {
+    for (call, answer, as_expected) in [
+        (
+            "access main page 6",
+            "EACCES layer=0 rights=write_file",
+            true,
+        ),
+        ("access main page 6", "EACCES rights=2 layer=0", true),
+        ("access main page 6", "EACCES layer=1", false),
+        ("access main page 6", "EACCES layer=none", false),
+        (
+            "access main page 6",
+            "EACCES rights=write_file+read_file",
+            false,
+        ),
+        ("access main page 4", "0 layer=none rights=none", true),
+        ("access main page 4", "0 layer=0", false),
+        ("access main 9 4", "ENOENT layer=none rights=none", true),
+        ("port main 81 1", "EACCES rights=bind_tcp", true),
+        ("port main 81 1", "EACCES rights=connect_tcp", false),
+        (
+            "rename main page drafts",
+            "EXDEV layer=0 rights=write_file",
+            true,
+        ),
+        ("rename main page drafts", "EXDEV rights=refer", false),
+        ("create main drafts regular", "new 4 layer=none", true),
+    ] {
+        let text = format!("{LAYERED}{call} => {answer}\n");
+        let ran = skein_with(&["run", "-"], text.as_bytes());
+        assert_eq!(ran.code, i32::from(!as_expected), "{call} => {answer}");
+        let marked = ran.out.contains("DIFFERS: expected ");
+        assert_eq!(marked, !as_expected, "{}", ran.out);
+    }
+}
+
+#[test]
+fn json_names_the_layer_and_the_rights() {
+    let text = format!(
+        "{LAYERED}\
+access main docs 0xffff => EACCES layer=0
+port main 80 3 => EACCES
+access main page read_file => 0
+clone 9 => ESRCH
+"
+    );
+    let document = json(&skein_with(&["run", "--json", "-"], text.as_bytes()).out);
+    let [.., access, port, granted, clone] = document.at("calls").list() else {
+        panic!("four calls");
+    };
+    assert_eq!(access.at("errno").number(), 13);
+    assert_eq!(access.at("layer").number(), 0);
+    assert_eq!(access.at("rights").texts(), ["write_file", "make_reg"]);
+    assert_eq!(access.at("expected").text(), "EACCES layer=0");
+    assert_eq!(port.at("rights").texts(), ["bind_tcp"]);
+    for call in [granted, clone] {
+        assert_eq!(call.at("layer"), &Value::Null);
+        assert!(call.at("rights").list().is_empty());
+    }
+}
+
 #[test]
 fn json_escapes_the_name_of_the_file() {
     let file = Scratch::new("a \"b\"\\\n\u{1}é.skein", b"clone main\n");

@@ -2,6 +2,10 @@
 //!
 //! Each call takes the six tables as they are, of any length and contents, tests them itself, and answers the success number
 //! or 2^64 minus an error number. The crate `skeinrabbit` has a typed interface over these.
+//!
+//! Calls that say more than their number write a report, of any length: the cells that fit are written, with every answer, and
+//! cells past them stay. The report of a request or of a change of the tree is the layer that refuses (its number + 1, or 0 for
+//! none) and its rights.
 #![no_std]
 
 pub mod layout;
@@ -118,6 +122,20 @@ macro_rules! calls {
     };
 }
 
+/// The calls whose arguments are numbers and a report.
+macro_rules! reporting_calls {
+    ($(
+        $(#[$doc:meta])*
+        $name:ident($tables:ident: $bundle:ty $(, $arg:ident)*), $export:ident $access:tt;
+    )*) => {
+        $(call! {
+            $(#[$doc])*
+            $name($tables: $bundle $(, $arg: u64)*, report: &mut [u64]), $export $access
+            ($($arg => u64,)* report.as_mut_ptr() => *mut u64, report.len() => usize)
+        })*
+    };
+}
+
 calls! {
     /// Fresh tables at a level.
     fresh(tables: &mut Cells, level),
@@ -146,6 +164,12 @@ calls! {
     /// Sets a thread's admin mark, or clears it where `on` is 0.
     set_admin(tables: &mut Cells, thread, on),
         skein_set_admin[const const const const const mut];
+}
+
+reporting_calls! {
+    /// Where a layer's rules stand in the pool. Reports the first cell and the number of cells; zeros with a refusal.
+    layer_rules(tables: SharedCells, layer),
+        skein_layer_rules[const const const const const const];
     /// Whether a thread may use an entry with the rights.
     access(tables: SharedCells, thread, entry, rights),
         skein_access[const const const const const const];
@@ -174,12 +198,4 @@ call! {
     create_ruleset(tables: &mut Cells, bytes: &[u8], flags: u64),
     skein_create_ruleset[const const mut const const const]
     (bytes.as_ptr() => *const u8, bytes.len() => usize, flags => u64)
-}
-
-call! {
-    /// Where a layer's rules stand in the pool: the first cell and the number of cells, written to the first two cells of `part`
-    /// as far as it has them; zeros with a refusal.
-    layer_rules(tables: SharedCells, layer: u64, part: &mut [u64]),
-    skein_layer_rules[const const const const const const]
-    (layer => u64, part.as_mut_ptr() => *mut u64, part.len() => usize)
 }

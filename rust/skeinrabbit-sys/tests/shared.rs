@@ -34,12 +34,32 @@ const EBADF: u64 = 9u64.wrapping_neg();
 
 #[test]
 fn requests_write_no_cell() {
-    assert_eq!(access(FRESH, 0, 0, 8), 0);
-    assert_eq!(access(FRESH, 1, 0, 8), ESRCH);
-    assert_eq!(port(FRESH, 0, 80, 1), 0);
-    let mut part = [7, 7, 7];
-    assert_eq!(layer_rules(FRESH, 0, &mut part), EBADF);
-    assert_eq!(part, [0, 0, 7]);
+    assert_eq!(access(FRESH, 0, 0, 8, &mut []), 0);
+    assert_eq!(access(FRESH, 1, 0, 8, &mut []), ESRCH);
+    assert_eq!(port(FRESH, 0, 80, 1, &mut []), 0);
+    assert_eq!(layer_rules(FRESH, 0, &mut []), EBADF);
+}
+
+/// A call that is given its report.
+type Reporting = fn(&mut [u64]) -> u64;
+
+#[test]
+fn reports_have_any_length() {
+    let calls: [(Reporting, u64); 3] = [
+        (|report| access(FRESH, 0, 0, 8, report), 0),
+        (|report| port(FRESH, 1, 80, 1, report), ESRCH),
+        (|report| layer_rules(FRESH, 0, report), EBADF),
+    ];
+    for (call, answer) in calls {
+        for (length, left) in [(0, [7; 5]), (1, [0, 7, 7, 7, 7]), (2, [0, 0, 7, 7, 7])] {
+            let mut report = [7; 5];
+            assert_eq!(call(&mut report[..length]), answer);
+            assert_eq!(report, left);
+        }
+    }
+    let mut report = [7; 5];
+    assert_eq!(port(FRESH, 0, 80, 1, &mut report), 0);
+    assert_eq!(report, [0, 0, 7, 7, 7]);
 }
 
 #[test]
@@ -48,7 +68,7 @@ fn tables_of_any_length_are_read() {
         entries: &[],
         ..FRESH
     };
-    assert_eq!(access(short, 0, 0, 8), EIO);
-    assert_eq!(port(short, 0, 80, 1), EIO);
+    assert_eq!(access(short, 0, 0, 8, &mut []), EIO);
+    assert_eq!(port(short, 0, 80, 1, &mut []), EIO);
     assert_eq!(layer_rules(short, 0, &mut []), EIO);
 }

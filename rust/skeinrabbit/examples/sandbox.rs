@@ -1,4 +1,4 @@
-use skeinrabbit::{AccessFs, Entry, Errno, Kind, Level, Tables, Thread};
+use skeinrabbit::{AccessFs, Entry, Errno, Kind, Level, Refusal, Tables, Thread};
 
 fn main() -> Result<(), Errno> {
     let level = Level::LATEST;
@@ -16,7 +16,8 @@ fn main() -> Result<(), Errno> {
 
     let may = |rights| tables.access(Thread::MAIN, table, rights);
     assert_eq!(may(AccessFs::READ_FILE), Ok(()));
-    assert_eq!(may(AccessFs::WRITE_FILE), Err(Errno::EACCES));
+    let rights = AccessFs::WRITE_FILE;
+    assert_eq!(may(rights), Err(Refusal::Denied { layer, rights }));
     assert_eq!(tables.layer_rules(layer)?.len(), 1);
     Ok(())
 }

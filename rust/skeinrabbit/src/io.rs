@@ -3,6 +3,7 @@
 extern crate std;
 
 use crate::errno::Errno;
+use crate::refusal::Refusal;
 use std::io;
 
 /// The error of that number on Linux. On another system the number may mean something else, so there the `Errno` is the inner error.
@@ -28,6 +29,13 @@ impl From<Errno> for io::Error {
         } else {
             io::Error::other(errno)
         }
+    }
+}
+
+/// The error of its number, without the layer and the rights.
+impl<R> From<Refusal<R>> for io::Error {
+    fn from(refusal: Refusal<R>) -> Self {
+        refusal.errno().into()
     }
 }
 

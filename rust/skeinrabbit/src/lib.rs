@@ -12,7 +12,7 @@
 //! must be granted by every layer that handles it. So handle every right ([`AccessFs::from_all`]) and grant the few that are needed.
 //!
 //! ```
-//! use skeinrabbit::{AccessFs, AccessNet, Entry, Errno, Kind, Level, Tables, Thread};
+//! use skeinrabbit::{AccessFs, AccessNet, Entry, Errno, Kind, Level, Refusal, Tables, Thread};
 //!
 //! let level = Level::LATEST;
 //! let mut tables = Tables::new(level)?;
@@ -21,7 +21,7 @@
 //!
 //! let worker = tables.clone_thread(Thread::MAIN)?;
 //! tables.set_no_new_privs(worker)?;
-//! tables
+//! let layer = tables
 //!     .ruleset()
 //!     .handle_fs(AccessFs::from_all(level))
 //!     .handle_net(AccessNet::from_all(level))
@@ -31,10 +31,14 @@
 //!     .restrict(worker)?;
 //!
 //! assert_eq!(tables.access(worker, page, AccessFs::READ_FILE), Ok(()));
-//! assert_eq!(tables.access(worker, page, AccessFs::WRITE_FILE), Err(Errno::EACCES));
-//! assert_eq!(tables.port(worker, 80, AccessNet::CONNECT_TCP), Err(Errno::EACCES));
+//! let rights = AccessFs::WRITE_FILE;
+//! assert_eq!(tables.access(worker, page, rights), Err(Refusal::Denied { layer, rights }));
+//! let rights = AccessNet::CONNECT_TCP;
+//! assert_eq!(tables.port(worker, 80, rights), Err(Refusal::Denied { layer, rights }));
 //! # Ok::<(), Errno>(())
 //! ```
+//!
+//! Where a layer refuses, the [`Refusal`] says which one and which rights; every other refusal is an [`Errno`] alone.
 //!
 //! # The incident
 //!
@@ -44,7 +48,7 @@
 //! where that is granted but the table would gain a right by the move.
 //!
 //! ```
-//! use skeinrabbit::{AccessFs, Entry, Errno, Kind, Level, Tables, Thread};
+//! use skeinrabbit::{AccessFs, Entry, Errno, Kind, Level, Refusal, Tables, Thread};
 //!
 //! let mut tables = Tables::new(Level::LATEST)?;
 //! let cal = tables.create(Thread::MAIN, Entry::ROOT, Kind::DIRECTORY)?;
@@ -54,7 +58,7 @@
 //! let plugin = tables.clone_thread(Thread::MAIN)?;
 //! tables.set_no_new_privs(plugin)?;
 //! let all = AccessFs::READ_FILE | AccessFs::WRITE_FILE | AccessFs::REMOVE_FILE | AccessFs::MAKE_REG | AccessFs::REFER;
-//! tables
+//! let layer = tables
 //!     .ruleset()
 //!     .handle_fs(all)
 //!     .create()?
@@ -62,20 +66,23 @@
 //!     .add_path(import, all)?
 //!     .restrict(plugin)?;
 //!
-//! assert_eq!(tables.access(plugin, table, AccessFs::WRITE_FILE), Err(Errno::EACCES));
-//! assert_eq!(tables.rename(plugin, table, import, None), Err(Errno::EACCES));
+//! let denied = |rights| Err(Refusal::Denied { layer, rights });
+//! assert_eq!(tables.access(plugin, table, AccessFs::WRITE_FILE), denied(AccessFs::WRITE_FILE));
+//! assert_eq!(tables.rename(plugin, table, import, None), denied(AccessFs::REMOVE_FILE));
 //!
 //! // Another plug-in may even take files out of the tree. The table still does not go where it could be written.
 //! let mover = tables.clone_thread(Thread::MAIN)?;
 //! tables.set_no_new_privs(mover)?;
-//! tables
+//! let layer = tables
 //!     .ruleset()
 //!     .handle_fs(all)
 //!     .create()?
 //!     .add_path(cal, all - AccessFs::WRITE_FILE)?
 //!     .add_path(import, all)?
 //!     .restrict(mover)?;
-//! assert_eq!(tables.rename(mover, table, import, None), Err(Errno::EXDEV));
+//! let gained = Refusal::Crossing { layer, rights: AccessFs::WRITE_FILE };
+//! assert_eq!(tables.rename(mover, table, import, None), Err(gained));
+//! assert_eq!(gained.errno(), Errno::EXDEV);
 //! # Ok::<(), Errno>(())
 //! ```
 //!
@@ -87,7 +94,7 @@
 //!
 //! # Without `std`
 //!
-//! The feature `std`, on by default, makes an [`Errno`] a `std::io::Error`. Without it the crate needs `alloc` alone.
+//! The feature `std`, on by default, makes an [`Errno`] or a [`Refusal`] a `std::io::Error`. Without it the crate needs `alloc` alone.
 #![cfg_attr(not(test), no_std)]
 #![forbid(unsafe_code)]
 #![deny(missing_docs)]
@@ -112,6 +119,7 @@ mod kind;
 mod level;
 mod numbers;
 mod policy;
+mod refusal;
 mod rights;
 mod rows;
 mod rules;
@@ -125,6 +133,7 @@ pub use errno::Errno;
 pub use kind::Kind;
 pub use level::Level;
 pub use numbers::{Entry, Layer, Ruleset, Thread};
+pub use refusal::Refusal;
 pub use rights::{AccessFs, AccessNet, PortRights, Rights, Scope, Scopes};
 pub use rows::{Attribute, EntryRow, LayerRow, RulesetRow, ThreadRow};
 pub use rules::{Rule, Rules, RulesIter};

@@ -71,6 +71,13 @@ impl Entry {
     pub const ROOT: Entry = Entry(0);
 }
 
+impl Layer {
+    /// The layer of a cell that holds its number with 1 added, 0 for none.
+    pub(crate) fn from_cell(cell: u64) -> Option<Layer> {
+        cell.checked_sub(1).map(Layer)
+    }
+}
+
 impl Thread {
     /// The thread of fresh tables.
     pub const MAIN: Thread = Thread(0);

@@ -1,6 +1,7 @@
 //! The calls that leave the tree alone: rulesets, threads and requests.
 use crate::errno::Errno;
 use crate::numbers::{Entry, Layer, Ruleset, Thread};
+use crate::refusal::Refusal;
 use crate::rights::{AccessFs, AccessNet};
 use crate::rules::Rules;
 use crate::tables::Tables;
@@ -240,6 +241,8 @@ impl Tables {
 }
 
 /// # Requests
+///
+/// Where a layer refuses, the refusal says which one and which of the rights it denies.
 impl Tables {
     /// Whether a thread may use an entry with all of these rights.
     ///
@@ -250,20 +253,28 @@ impl Tables {
     /// # use skeinrabbit::*;
     /// let mut tables = Tables::new(Level::LATEST)?;
     /// tables.set_no_new_privs(Thread::MAIN)?;
-    /// tables
+    /// let layer = tables
     ///     .ruleset()
     ///     .handle_fs(AccessFs::READ_DIR | AccessFs::MAKE_DIR)
     ///     .create()?
     ///     .add_path(Entry::ROOT, AccessFs::READ_DIR)?
     ///     .restrict(Thread::MAIN)?;
     /// assert_eq!(tables.access(Thread::MAIN, Entry::ROOT, AccessFs::READ_DIR), Ok(()));
-    /// assert_eq!(tables.access(Thread::MAIN, Entry::ROOT, AccessFs::MAKE_DIR), Err(Errno::EACCES));
+    /// let refused = tables.access(Thread::MAIN, Entry::ROOT, AccessFs::READ_DIR | AccessFs::MAKE_DIR);
+    /// assert_eq!(refused, Err(Refusal::Denied { layer, rights: AccessFs::MAKE_DIR }));
     /// # Ok::<(), Errno>(())
     /// ```
-    pub fn access(&self, thread: Thread, entry: Entry, rights: AccessFs) -> Result<(), Errno> {
+    pub fn access(
+        &self,
+        thread: Thread,
+        entry: Entry,
+        rights: AccessFs,
+    ) -> Result<(), Refusal<AccessFs>> {
         let (thread, entry) = (thread.number(), entry.number());
-        let raw = sys::access(self.shared(), thread, entry, rights.bits());
-        Errno::answer(raw).map(drop)
+        let answer = Refusal::answer(AccessFs::from_bits, |report| {
+            sys::access(self.shared(), thread, entry, rights.bits(), report)
+        });
+        answer.map(drop)
     }
 
     /// Whether a thread may use a port with all of these rights.
@@ -275,19 +286,27 @@ impl Tables {
     /// # use skeinrabbit::*;
     /// let mut tables = Tables::new(Level::LATEST)?;
     /// tables.set_no_new_privs(Thread::MAIN)?;
-    /// tables
+    /// let layer = tables
     ///     .ruleset()
     ///     .handle_net(AccessNet::BIND_TCP)
     ///     .create()?
     ///     .add_port(80, AccessNet::BIND_TCP)?
     ///     .restrict(Thread::MAIN)?;
     /// assert_eq!(tables.port(Thread::MAIN, 80, AccessNet::BIND_TCP), Ok(()));
-    /// assert_eq!(tables.port(Thread::MAIN, 81, AccessNet::BIND_TCP), Err(Errno::EACCES));
+    /// let rights = AccessNet::BIND_TCP;
+    /// assert_eq!(tables.port(Thread::MAIN, 81, rights), Err(Refusal::Denied { layer, rights }));
     /// assert_eq!(tables.port(Thread::MAIN, 81, AccessNet::CONNECT_TCP), Ok(()));
     /// # Ok::<(), Errno>(())
     /// ```
-    pub fn port(&self, thread: Thread, port: u64, rights: AccessNet) -> Result<(), Errno> {
-        let raw = sys::port(self.shared(), thread.number(), port, rights.bits());
-        Errno::answer(raw).map(drop)
+    pub fn port(
+        &self,
+        thread: Thread,
+        port: u64,
+        rights: AccessNet,
+    ) -> Result<(), Refusal<AccessNet>> {
+        let answer = Refusal::answer(AccessNet::from_bits, |report| {
+            sys::port(self.shared(), thread.number(), port, rights.bits(), report)
+        });
+        answer.map(drop)
     }
 }

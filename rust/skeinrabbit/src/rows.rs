@@ -98,11 +98,6 @@ impl Attribute {
     }
 }
 
-/// A layer's number from a cell that holds it with 1 added, 0 for none.
-fn layer_of(cell: u64) -> Option<Layer> {
-    cell.checked_sub(1).map(Layer::new)
-}
-
 /// # Rows
 ///
 /// These read the cells as they stand. [`Tables::is_sound`] tells whether the tables mean anything.
@@ -168,7 +163,7 @@ impl Tables {
             self.cells().row(Table::Layers, layer.number())?;
         (holders != 0).then_some(LayerRow {
             layer,
-            parent: layer_of(parent),
+            parent: Layer::from_cell(parent),
             attribute: Attribute::from_cells(fs, net, scope),
             holders,
         })
@@ -185,7 +180,7 @@ impl Tables {
             self.cells().row(Table::Threads, thread.number())?;
         (live != 0).then_some(ThreadRow {
             thread,
-            youngest: layer_of(youngest),
+            youngest: Layer::from_cell(youngest),
             no_new_privs: no_new_privs != 0,
             admin: admin != 0,
         })

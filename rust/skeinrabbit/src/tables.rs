@@ -3,6 +3,7 @@ use crate::cells::Cells;
 use crate::errno::Errno;
 use crate::level::Level;
 use crate::numbers::{Entry, Thread};
+use crate::refusal::Refusal;
 use crate::rights::AccessFs;
 use core::fmt;
 use skeinrabbit_sys as sys;
@@ -64,7 +65,8 @@ impl Tables {
     /// let mut cells = Tables::new(Level::LATEST)?.into_cells();
     /// cells.threads[3] = 7; // an admin mark is 0 or 1
     /// let tables = Tables::from_cells(cells);
-    /// assert_eq!(tables.access(Thread::MAIN, Entry::ROOT, AccessFs::READ_DIR), Err(Errno::EIO));
+    /// let refused = tables.access(Thread::MAIN, Entry::ROOT, AccessFs::READ_DIR);
+    /// assert_eq!(refused, Err(Refusal::Other(Errno::EIO)));
     /// # Ok::<(), Errno>(())
     /// ```
     pub fn from_cells(cells: Cells) -> Self {
@@ -91,7 +93,7 @@ impl Tables {
     pub fn is_sound(&self) -> bool {
         // No thread has this number: sound tables answer ESRCH, others EIO.
         let nobody = Thread::new(u64::MAX);
-        self.access(nobody, Entry::ROOT, AccessFs::NONE) == Err(Errno::ESRCH)
+        self.access(nobody, Entry::ROOT, AccessFs::NONE) == Err(Refusal::Other(Errno::ESRCH))
     }
 
     pub(crate) fn shared(&self) -> sys::SharedCells<'_> {

@@ -1,14 +1,16 @@
 //! The calls that change the tree.
-use crate::errno::Errno;
 use crate::kind::Kind;
 use crate::numbers::{Entry, Thread};
+use crate::refusal::Refusal;
+use crate::rights::AccessFs;
 use crate::tables::Tables;
 use skeinrabbit_sys as sys;
 
 /// # The tree
 ///
 /// Where a call names two directories, EACCES comes before EXDEV: EACCES where a layer denies a right that the step needs
-/// (making, removing), EXDEV where only REFER is denied at either directory or the entry would gain a right by the move.
+/// (making, removing), EXDEV where only REFER is denied at either directory or the entry would gain a right by the move. With
+/// either the refusal says which layer it is and which rights.
 impl Tables {
     /// Creates an entry in a directory and answers its number, the lowest that is free.
     ///
@@ -21,13 +23,19 @@ impl Tables {
     /// let folder = tables.create(Thread::MAIN, Entry::ROOT, Kind::DIRECTORY)?;
     /// let file = tables.create(Thread::MAIN, folder, Kind::REGULAR)?;
     /// assert_eq!(file, Entry::new(2));
-    /// assert_eq!(tables.create(Thread::MAIN, file, Kind::REGULAR), Err(Errno::ENOTDIR));
+    /// assert_eq!(tables.create(Thread::MAIN, file, Kind::REGULAR), Err(Errno::ENOTDIR.into()));
     /// # Ok::<(), Errno>(())
     /// ```
-    pub fn create(&mut self, thread: Thread, directory: Entry, kind: Kind) -> Result<Entry, Errno> {
+    pub fn create(
+        &mut self,
+        thread: Thread,
+        directory: Entry,
+        kind: Kind,
+    ) -> Result<Entry, Refusal<AccessFs>> {
         let (thread, directory) = (thread.number(), directory.number());
-        let raw = sys::create(&mut self.raw(), thread, directory, kind.number());
-        Errno::answer(raw).map(Entry::new)
+        let answer = self
+            .change(|tables, report| sys::create(tables, thread, directory, kind.number(), report));
+        answer.map(Entry::new)
     }
 
     /// Removes an entry.
@@ -40,13 +48,14 @@ impl Tables {
     /// let mut tables = Tables::new(Level::LATEST)?;
     /// let file = tables.create(Thread::MAIN, Entry::ROOT, Kind::REGULAR)?;
     /// assert_eq!(tables.remove(Thread::MAIN, file), Ok(()));
-    /// assert_eq!(tables.remove(Thread::MAIN, file), Err(Errno::ENOENT));
-    /// assert_eq!(tables.remove(Thread::MAIN, Entry::ROOT), Err(Errno::EBUSY));
+    /// assert_eq!(tables.remove(Thread::MAIN, file), Err(Errno::ENOENT.into()));
+    /// assert_eq!(tables.remove(Thread::MAIN, Entry::ROOT), Err(Errno::EBUSY.into()));
     /// # Ok::<(), Errno>(())
     /// ```
-    pub fn remove(&mut self, thread: Thread, entry: Entry) -> Result<(), Errno> {
-        let raw = sys::remove(&mut self.raw(), thread.number(), entry.number());
-        Errno::answer(raw).map(drop)
+    pub fn remove(&mut self, thread: Thread, entry: Entry) -> Result<(), Refusal<AccessFs>> {
+        let (thread, entry) = (thread.number(), entry.number());
+        let answer = self.change(|tables, report| sys::remove(tables, thread, entry, report));
+        answer.map(drop)
     }
 
     /// Links an entry's object into a directory and answers the new entry, the lowest number that is free.
@@ -69,10 +78,11 @@ impl Tables {
         thread: Thread,
         source: Entry,
         directory: Entry,
-    ) -> Result<Entry, Errno> {
+    ) -> Result<Entry, Refusal<AccessFs>> {
         let (source, directory) = (source.number(), directory.number());
-        let raw = sys::link(&mut self.raw(), thread.number(), source, directory);
-        Errno::answer(raw).map(Entry::new)
+        let answer = self
+            .change(|tables, report| sys::link(tables, thread.number(), source, directory, report));
+        answer.map(Entry::new)
     }
 
     /// Moves an entry to a directory, in place of `replaced` where there is one. The source keeps its number, and the replaced
@@ -90,7 +100,7 @@ impl Tables {
     /// let file = tables.create(Thread::MAIN, Entry::ROOT, Kind::REGULAR)?;
     /// assert_eq!(tables.rename(Thread::MAIN, file, folder, None), Ok(()));
     /// assert_eq!(tables.entry(file).map(|row| row.parent), Some(folder));
-    /// assert_eq!(tables.rename(Thread::MAIN, folder, folder, None), Err(Errno::EINVAL));
+    /// assert_eq!(tables.rename(Thread::MAIN, folder, folder, None), Err(Errno::EINVAL.into()));
     /// # Ok::<(), Errno>(())
     /// ```
     pub fn rename(
@@ -99,18 +109,15 @@ impl Tables {
         source: Entry,
         directory: Entry,
         replaced: Option<Entry>,
-    ) -> Result<(), Errno> {
+    ) -> Result<(), Refusal<AccessFs>> {
+        let (source, directory) = (source.number(), directory.number());
         let replaces = u64::from(replaced.is_some());
         let entry = replaced.map_or(0, Entry::number);
-        let raw = sys::rename(
-            &mut self.raw(),
-            thread.number(),
-            source.number(),
-            directory.number(),
-            replaces,
-            entry,
-        );
-        Errno::answer(raw).map(drop)
+        let answer = self.change(|tables, report| {
+            let thread = thread.number();
+            sys::rename(tables, thread, source, directory, replaces, entry, report)
+        });
+        answer.map(drop)
     }
 
     /// Exchanges an entry with an entry of a directory. Where both have one object nothing changes.
@@ -136,14 +143,19 @@ impl Tables {
         source: Entry,
         directory: Entry,
         entry: Entry,
-    ) -> Result<(), Errno> {
-        let raw = sys::exchange(
-            &mut self.raw(),
-            thread.number(),
-            source.number(),
-            directory.number(),
-            entry.number(),
-        );
-        Errno::answer(raw).map(drop)
+    ) -> Result<(), Refusal<AccessFs>> {
+        let (source, directory) = (source.number(), directory.number());
+        let answer = self.change(|tables, report| {
+            let (thread, entry) = (thread.number(), entry.number());
+            sys::exchange(tables, thread, source, directory, entry, report)
+        });
+        answer.map(drop)
+    }
+
+    fn change(
+        &mut self,
+        call: impl FnOnce(&mut sys::Cells, &mut [u64]) -> u64,
+    ) -> Result<u64, Refusal<AccessFs>> {
+        Refusal::answer(AccessFs::from_bits, |report| call(&mut self.raw(), report))
     }
 }

@@ -22,26 +22,54 @@ const CALLS: [Call; 18] = [
     |t, [a, ..]| t.set_no_new_privs(a.into()).map(|()| 0),
     |t, [a, b, ..]| t.set_admin(a.into(), b != 0).map(|()| 0),
     |t, [a, b, c, ..]| {
-        t.access(a.into(), b.into(), AccessFs::from_bits(c))
-            .map(|()| 0)
+        let answer = t.access(a.into(), b.into(), AccessFs::from_bits(c));
+        number(t, answer.map(|()| 0))
     },
-    |t, [a, b, c, ..]| t.port(a.into(), b, AccessNet::from_bits(c)).map(|()| 0),
     |t, [a, b, c, ..]| {
-        t.create(a.into(), b.into(), Kind::new(c))
-            .map(Entry::number)
+        let answer = t.port(a.into(), b, AccessNet::from_bits(c));
+        number(t, answer.map(|()| 0))
     },
-    |t, [a, b, ..]| t.remove(a.into(), b.into()).map(|()| 0),
-    |t, [a, b, c, ..]| t.link(a.into(), b.into(), c.into()).map(Entry::number),
-    |t, [a, b, c, ..]| t.rename(a.into(), b.into(), c.into(), None).map(|()| 0),
-    |t, [a, b, c, d, _]| {
-        t.rename(a.into(), b.into(), c.into(), Some(d.into()))
-            .map(|()| 0)
+    |t, [a, b, c, ..]| {
+        let answer = t.create(a.into(), b.into(), Kind::new(c));
+        number(t, answer.map(Entry::number))
+    },
+    |t, [a, b, ..]| {
+        let answer = t.remove(a.into(), b.into());
+        number(t, answer.map(|()| 0))
+    },
+    |t, [a, b, c, ..]| {
+        let answer = t.link(a.into(), b.into(), c.into());
+        number(t, answer.map(Entry::number))
+    },
+    |t, [a, b, c, ..]| {
+        let answer = t.rename(a.into(), b.into(), c.into(), None);
+        number(t, answer.map(|()| 0))
     },
     |t, [a, b, c, d, _]| {
-        t.exchange(a.into(), b.into(), c.into(), d.into())
-            .map(|()| 0)
+        let answer = t.rename(a.into(), b.into(), c.into(), Some(d.into()));
+        number(t, answer.map(|()| 0))
+    },
+    |t, [a, b, c, d, _]| {
+        let answer = t.exchange(a.into(), b.into(), c.into(), d.into());
+        number(t, answer.map(|()| 0))
     },
 ];
+
+/// The number of an answer. EACCES and EXDEV come from a layer in use, and no other refusal does.
+fn number<R: Default + PartialEq>(
+    tables: &Tables,
+    answer: Result<u64, Refusal<R>>,
+) -> Result<u64, Errno> {
+    answer.map_err(|refusal| {
+        match &refusal {
+            Refusal::Denied { layer, rights } | Refusal::Crossing { layer, rights } => {
+                assert!(tables.layer(*layer).is_some() && *rights != R::default());
+            }
+            Refusal::Other(errno) => assert!(![Errno::EACCES, Errno::EXDEV].contains(errno)),
+        }
+        refusal.errno()
+    })
+}
 
 /// Numbers that look random and are the same each time.
 struct Noise(u64);
@@ -374,10 +402,110 @@ fn a_replaced_entry_is_told_from_none() {
     let rename =
         |tables: &mut Tables, replaced| tables.rename(Thread::MAIN, file, Entry::ROOT, replaced);
     assert_eq!(rename(&mut tables, None), Ok(()));
-    assert_eq!(rename(&mut tables, Some(Entry::ROOT)), Err(Errno::EBUSY));
+    let refused = |errno| Err(Refusal::Other(errno));
+    assert_eq!(
+        rename(&mut tables, Some(Entry::ROOT)),
+        refused(Errno::EBUSY)
+    );
     assert_eq!(
         rename(&mut tables, Some(Entry::new(u64::MAX))),
-        Err(Errno::ENOENT)
+        refused(Errno::ENOENT)
     );
     assert_eq!(rename(&mut tables, Some(file)), Ok(()));
+}
+
+/// Two directories, a file in each, and two layers: the older denies more.
+fn two_layers() -> (Tables, [Entry; 4]) {
+    let mut tables = Tables::new(Level::LATEST).unwrap();
+    let mut create = |directory, kind| tables.create(Thread::MAIN, directory, kind).unwrap();
+    let [one, two] = [Entry::ROOT; 2].map(|root| create(root, Kind::DIRECTORY));
+    let [first, second] = [one, two].map(|directory| create(directory, Kind::REGULAR));
+    tables.set_no_new_privs(Thread::MAIN).unwrap();
+    let handled = AccessFs::WRITE_FILE | AccessFs::REMOVE_FILE | AccessFs::MAKE_REG;
+    for (denied, net) in [
+        (handled, AccessNet::ALL),
+        (AccessFs::MAKE_REG, AccessNet::BIND_TCP),
+    ] {
+        let open = tables.ruleset().handle_fs(denied).handle_net(net).create();
+        open.unwrap().restrict(Thread::MAIN).unwrap();
+    }
+    (tables, [one, two, first, second])
+}
+
+#[test]
+fn a_refusal_names_the_youngest_layer_that_denies() {
+    let (mut tables, [one, two, first, second]) = two_layers();
+    let main = Thread::MAIN;
+    let [older, younger] = [0, 1].map(Layer::new);
+    let denied = |layer, rights| Err(Refusal::Denied { layer, rights });
+    let access = |rights| tables.access(main, one, rights);
+    assert_eq!(
+        access(AccessFs::ALL),
+        denied(younger, AccessFs::MAKE_REG | AccessFs::REFER)
+    );
+    assert_eq!(access(AccessFs::REFER), denied(younger, AccessFs::REFER));
+    assert_eq!(
+        access(AccessFs::WRITE_FILE | AccessFs::REMOVE_FILE),
+        denied(older, AccessFs::WRITE_FILE | AccessFs::REMOVE_FILE)
+    );
+    let port = |rights| tables.port(main, 80, rights);
+    let denied_port = |layer, rights| Err(Refusal::Denied { layer, rights });
+    assert_eq!(
+        port(AccessNet::ALL),
+        denied_port(younger, AccessNet::BIND_TCP)
+    );
+    let connect = AccessNet::CONNECT_TCP;
+    assert_eq!(port(connect), denied_port(older, connect));
+    let (make, remove) = (AccessFs::MAKE_REG, AccessFs::REMOVE_FILE);
+    assert_eq!(
+        tables.create(main, one, Kind::REGULAR).map(drop),
+        denied(younger, make)
+    );
+    assert_eq!(tables.remove(main, first), denied(older, remove));
+    assert_eq!(
+        tables.link(main, first, two).map(drop),
+        denied(younger, make)
+    );
+    assert_eq!(
+        tables.rename(main, first, two, Some(second)),
+        denied(younger, make)
+    );
+    assert_eq!(
+        tables.exchange(main, first, two, second),
+        denied(younger, make)
+    );
+    let inner = Refusal::<AccessFs>::Crossing {
+        layer: younger,
+        rights: AccessFs::REFER,
+    };
+    let fifo = tables.create(main, one, Kind::FIFO).unwrap();
+    assert_eq!(tables.link(main, fifo, two).map(drop), Err(inner));
+}
+
+#[test]
+fn refusals_read_as_words() {
+    let layer = Layer::new(3);
+    let rights = AccessFs::WRITE_FILE | AccessFs::REFER;
+    let denied = Refusal::Denied { layer, rights };
+    assert_eq!(
+        denied.to_string(),
+        "EACCES: layer 3 denies write_file+refer"
+    );
+    let rights = AccessNet::ALL;
+    assert_eq!(
+        Refusal::Denied { layer, rights }.to_string(),
+        "EACCES: layer 3 denies bind_tcp+connect_tcp"
+    );
+    let rights = AccessFs::TRUNCATE;
+    let crossing = Refusal::Crossing { layer, rights };
+    assert_eq!(
+        crossing.to_string(),
+        "EXDEV: layer 3 refuses the move for truncate"
+    );
+    assert_eq!(crossing.errno(), Errno::EXDEV);
+    let other = Refusal::<AccessFs>::from(Errno::ENOENT);
+    assert_eq!(
+        (other.to_string(), Errno::from(other)),
+        ("ENOENT".to_owned(), Errno::ENOENT)
+    );
 }

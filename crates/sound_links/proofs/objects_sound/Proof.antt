@@ -1,14 +1,15 @@
 -- The invariant: every entry below `e` agrees with those before it, and the index has them. Assumes nothing.
-use Prim.Native.Nat.{_≤_, _-_}
+use Prim.Native.Nat.{_≤_, _-_, _*_}
 use mathlib.Core.Path.{_≡_, sym, _∙_}
 use mathlib.Core.Bool.{true, false≢true}
 use native.Mathlib.Omega.{arith}
 use borrow.Author.Tests.{not-true, not-false}
 use Rattle.laws.specs.Tests.{allBelow}
 use Rattle.laws.proofs.Tests.{all-none, all-more, all-fails}
-use Rattle.sound_objects.specs.Objects.{IndexedBelow}
+use Rattle.access.specs.Limits.{maxEntries}
+use Rattle.sound_objects.specs.Objects.{buckets, branches, IndexedBelow}
 use Rattle.sound_objects.proofs.Rows.{free-kind}
-use Rattle.sound_objects.proofs.Index.{length-zeros, index-none, index-done}
+use Rattle.sound_objects.proofs.Index.{zeros-length, index-none, index-done}
 use Rattle.sound_tree.specs.Tree.{linksSound}
 use Rattle.sound_tree.proofs.Rows.{all-past, links-free}
 use Rattle.sound_links.proofs.objects_sound.Statement.{statement}
@@ -24,7 +25,7 @@ pub objects-sound-spec : {M : Type 1} → statement M
 objects-sound-spec =
     tie.close
     (tie.spec Inv-loop μ-loop
-    (λ c. let s = c .before .before .before in (omega arith, (all-none _, index-none _ _ (s .args .links .now) (s .pre .1 .0) (s .pre .1 .1))))
+    (λ c. let s = c .before .before .before in (omega arith, (all-none _, index-none _ _ _ (s .pre .1 .0) (s .pre .1 .1))))
     (λ c κs.
     let l = c .before .before .before in
     let s = l .before .before .before .before in
@@ -32,11 +33,11 @@ objects-sound-spec =
     (λ c.
     let a = c .before .before .before .before .before in
     let l = a .before .before .before .before in
-    a .add-entry .kept .1 .0 ∙ l .loop .inv .1 .1 .0 ∙ sym (length-zeros _ (l .before .before .before .before .pre .1 .0)))
+    a .add-entry .kept .1 .0 ∙ l .loop .inv .1 .1 .size ∙ sym (zeros-length buckets (l .before .before .before .before .pre .1 .0)))
     (λ c.
     let a = c .before .before .before .before .before in
     let l = a .before .before .before .before in
-    a .add-entry .kept .1 .1 .0 ∙ l .loop .inv .1 .1 .1 .0 ∙ sym (l .before .before .before .before .pre .1 .1))
+    a .add-entry .kept .1 .1 .0 ∙ l .loop .inv .1 .1 .trees .size ∙ sym (zeros-length (branches * maxEntries) (l .before .before .before .before .pre .1 .1)))
     (λ c.
     let a = c .before .before .before .before .before in
     let l = a .before .before .before .before .loop in
@@ -48,11 +49,11 @@ objects-sound-spec =
     let l = a .before .before .before .before .loop in
     let r = not-false _ (c .if1 .left) in
     (omega arith, (all-more _ _ (l .inv .1 .0) (sym (a .add-entry .ensures .0) ∙ r), a .add-entry .ensures .1 r)))
-    (λ c. let s = c .before .before .before .before .before in c .before .loop .inv .1 .1 .0 ∙ sym (length-zeros _ (s .pre .1 .0)))
-    (λ c. let s = c .before .before .before .before .before in c .before .loop .inv .1 .1 .1 .0 ∙ sym (s .pre .1 .1))
+    (λ c. let s = c .before .before .before .before .before in c .before .loop .inv .1 .1 .size ∙ sym (zeros-length buckets (s .pre .1 .0)))
+    (λ c. let s = c .before .before .before .before .before in c .before .loop .inv .1 .1 .trees .size ∙ sym (zeros-length (branches * maxEntries) (s .pre .1 .1)))
     (λ c.
     let l = c .before .loop in
     let s = c .before .before .before .before .before in (
       all-past _ _ (s .args .end) (l .e) (omega arith) (l .inv .1 .0) (λ j k. sym (links-free _ j (free-kind _ (s .pre .0) j k))),
-      λ r. index-done _ (l .heads) (l .links) (s .args .end) (l .e) (s .pre .0) (omega arith) (omega arith) (l .inv .1 .1),
+      λ r. index-done _ (s .pre .0) (omega arith) (omega arith) (l .inv .1 .1),
     )))

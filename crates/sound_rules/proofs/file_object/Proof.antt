@@ -1,59 +1,42 @@
--- The invariant: what is still to be walked has a file of the object exactly if the entries do. Assumes nothing.
-use mathlib.Core.Path.{_≡_, sym, ap, _∙_}
-use mathlib.Core.Bool.{true}
-use mathlib.Core.List.{List}
-use Prim.Native.Nat.{ℕ}
+-- Assumes nothing.
+use mathlib.Core.Path.{refl}
 use native.Mathlib.Omega.{arith}
-use lib.ListN.{getD}
-use Rattle.laws.specs.Tests.{anyBelow}
-use Rattle.access.specs.Limits.{maxEntries}
-use Rattle.tables.specs.Tables.{object, live}
-use Rattle.sound_objects.specs.Objects.{bucketOf}
-use Rattle.sound_objects.proofs.Index.{bucket-below, bucket-in}
-use Rattle.sound_objects.proofs.Chains.{Walk, walk-start, walk-in, walk-less, walk-hit, walk-miss, walk-end}
-use Rattle.sound_rules.specs.Rules.{isFileOf, fileObject}
-use Rattle.sound_rules.proofs.Facts.{file-object, file-live}
+use borrow.Author.Needs.{needs}
+use Rattle.sound_objects.proofs.Index.{bucket-in}
+use Rattle.sound_rules.proofs.Files.{file-no-root, file-no-node, file-by-node}
 use Rattle.sound_rules.proofs.file_object.Statement.{statement}
 use Rattle.sound_rules.proofs.file_object.Tie as tie
 
--- a file of the object is live, and in the object's bucket
-only : (es : List ℕ) (o f : ℕ) → isFileOf es o f ≡ true → (live es f ≡ true) × (bucketOf (object es f) ≡ bucketOf o)
-only es o f h = (file-live es o f h, ap bucketOf (file-object es o f h))
-
-abbrev Inv-loop : tie.InvT-loop
-Inv-loop entries heads links o at₀ at = Walk entries (bucketOf o) (isFileOf entries o) (anyBelow (isFileOf entries o) maxEntries) maxEntries at
-
-abbrev μ-loop : tie.MeasureT-loop
-μ-loop entries heads links o at₀ at = at
-
-holds : tie.Need-loop-holds Inv-loop μ-loop
-holds c =
-    let s = c .before .before .before .before .before in
-    let b = c .before .bucket-of in
-    walk-start _ _ _ maxEntries _
-    (ap (λ (n : ℕ). getD (s .args .heads .now) n 0) (b .ensures) ∙ s .pre .1 .1 .1 .0 (bucketOf (s .args .object)) (bucket-below (s .args .object)))
-
 pub file-object-spec : {M : Type 1} → statement M
-unfolding fileObject
 file-object-spec =
     tie.close
-    (tie.spec Inv-loop μ-loop
-    (λ c κs. tt)
+    (tie.spec
+    (λ c κs. search needs)
     (λ c. let h = bucket-in _ (c .bucket-of .ensures) in omega arith)
-    (λ c. let s = c .before .before .before .before .before in let h = bucket-in _ (c .before .bucket-of .ensures) in omega (arith, s .pre .1 .0))
-    holds
-    (λ c. omega arith)
-    (λ c κs. (c .before .before .before .before .before .before .before .pre .0, walk-in (c .before .loop .inv) (c .loop-test .taken)))
-    (λ c. let t = c .before .before in walk-hit (t .before .loop .inv) (only _ _) (t .loop-test .taken) (sym (c .before .is-file-of .ensures) ∙ c .if1 .taken))
-    (λ c. let t = c .before .before in let h = walk-in (t .before .loop .inv) (t .loop-test .taken) in omega arith)
-    (λ c. let t = c .before .before .before in let h = walk-in (t .before .loop .inv) (t .loop-test .taken) in omega (arith, t .before .before .before .before .before .before .before .pre .1 .1 .0))
     (λ c.
-    let t = c .before .before .before in
-    let s = t .before .before .before .before .before .before .before in
-    walk-less (t .before .loop .inv) (s .args .links .now) (s .pre .1 .1 .1 .1) (t .loop-test .taken))
+    let h = bucket-in _ (c .before .bucket-of .ensures) in
+    let w = c .before .before .before .before .before .pre .1 .size in
+    omega arith)
+    (λ c. omega (arith, c .shared-slice-known4 .given (c .before .bucket-of .result)))
     (λ c.
-    let d = c .before in
-    let t = d .before .before in
-    let s = t .before .before .before .before .before .before .before in
-    walk-miss (t .before .loop .inv) (only _ _) (s .args .links .now) (s .pre .1 .1 .1 .1) (t .loop-test .taken) (sym (d .before .is-file-of .ensures) ∙ d .if1 .left))
-    (λ c. walk-end (c .before .loop .inv) (only _ _) (c .loop-test .left)))
+    let b = c .before .before in
+    let s = b .before .before .before .before in
+    file-no-root _ (s .args .heads .now) _ _ (s .pre .1) (b .bucket-of .ensures) (c .if1 .taken))
+    (λ c κs.
+    let b = c .before .before in
+    let s = b .before .before .before .before in
+    let u = s .pre .1 in
+    (s .pre .0, (u .trees, (c .if1 .left, u .roots (b .bucket-of .result) (c .if1 .left) .0))))
+    (λ c.
+    let b = c .before .before .before .before in
+    let s = b .before .before .before .before in
+    file-no-node _ (s .args .heads .now) _ _ (s .pre .1) (b .bucket-of .ensures) (c .before .search .ensures .missed (c .if2 .taken)))
+    (λ c. search needs)
+    (λ c. search needs)
+    (λ c. search needs)
+    (λ c. search needs)
+    (λ c.
+    let t = c .before in
+    let b = t .before .before .before .before in
+    let s = b .before .before .before .before in
+    file-by-node _ (s .args .heads .now) _ _ (s .pre .1) (b .bucket-of .ensures) (t .before .search .ensures .found (t .if2 .left)) (t .if2 .left) refl))

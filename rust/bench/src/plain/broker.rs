@@ -1,10 +1,10 @@
 //! Whole calls over the cells, each with a soundness test in front. Answers are as the core's: the success number, or 2^64
-//! minus an error number.
+//! minus an error number. Requests and changes of the tree report which layer refuses, with which rights.
 
-use super::verdict::{lacks, rename_verdict};
+use super::verdict::{access_verdict, rename_verdict, Verdict};
 use crate::landlock::{
-    held_rights, make_right, remove_right, ALL_FS, DIRECTORY, EACCES, EAGAIN, EBUSY, EINVAL, EIO,
-    ENOENT, ENOSPC, ENOTDIR, ENOTEMPTY, ESRCH, LAST_KIND, OBJECTS_END,
+    held_rights, make_right, remove_right, ALL_FS, DIRECTORY, EAGAIN, EBUSY, EINVAL, EIO, ENOENT,
+    ENOSPC, ENOTDIR, ENOTEMPTY, ESRCH, LAST_KIND, OBJECTS_END,
 };
 use crate::tables::{Tables, HOLDERS};
 use skeinrabbit_sys::layout::{ENTRY_WIDTH, LAYER_WIDTH, RULE_WIDTH, THREAD_WIDTH};
@@ -15,39 +15,74 @@ pub struct Broker {
     pub is_sound: fn(&Tables) -> bool,
 }
 
-type Answer = Result<u64, u64>;
+/// The layer that refuses (its number + 1, or 0 for none) and its rights.
+pub type Report = [u64; 2];
 
-fn refuse(applies: bool, errno: u64) -> Result<(), u64> {
+type Answer = Result<u64, Verdict>;
+
+fn refuse(applies: bool, errno: u64) -> Result<(), Verdict> {
     if applies {
-        Err(errno)
+        Err(Verdict::refused(errno))
     } else {
         Ok(())
     }
 }
 
+/// Refuses what a verdict refuses.
+fn granted(verdict: Verdict) -> Result<(), Verdict> {
+    if verdict.errno == 0 {
+        Ok(())
+    } else {
+        Err(verdict)
+    }
+}
+
 fn number(answer: Answer) -> u64 {
-    answer.unwrap_or_else(u64::wrapping_neg)
+    answer.unwrap_or_else(|verdict| verdict.errno.wrapping_neg())
+}
+
+fn reported(answer: Answer, report: &mut Report) -> u64 {
+    *report = answer.map_or_else(|verdict| [verdict.layer, verdict.rights], |_| [0; 2]);
+    number(answer)
 }
 
 impl Broker {
     /// Whether a thread may use an entry with the rights.
-    pub fn access(self, tables: &Tables, thread: u64, entry: u64, asked: u64) -> u64 {
-        number(self.accessed(tables, thread, entry, asked))
+    pub fn access(
+        self,
+        tables: &Tables,
+        thread: u64,
+        (entry, asked): (u64, u64),
+        report: &mut Report,
+    ) -> u64 {
+        reported(self.accessed(tables, thread, entry, asked), report)
     }
 
     /// Creates an entry of a kind in a directory; answers its number.
-    pub fn create(self, tables: &mut Tables, thread: u64, directory: u64, kind: u64) -> u64 {
-        number(self.created(tables, thread, directory, kind))
+    pub fn create(
+        self,
+        tables: &mut Tables,
+        thread: u64,
+        (directory, kind): (u64, u64),
+        report: &mut Report,
+    ) -> u64 {
+        reported(self.created(tables, thread, directory, kind), report)
     }
 
     /// Removes an entry.
-    pub fn remove(self, tables: &mut Tables, thread: u64, entry: u64) -> u64 {
-        number(self.removed(tables, thread, entry))
+    pub fn remove(self, tables: &mut Tables, thread: u64, entry: u64, report: &mut Report) -> u64 {
+        reported(self.removed(tables, thread, entry), report)
     }
 
     /// Renames an entry into a directory, with nothing replaced.
-    pub fn rename(self, tables: &mut Tables, thread: u64, source: u64, directory: u64) -> u64 {
-        number(self.renamed(tables, thread, source, directory))
+    pub fn rename(
+        self,
+        tables: &mut Tables,
+        thread: u64,
+        (source, directory): (u64, u64),
+        report: &mut Report,
+    ) -> u64 {
+        reported(self.renamed(tables, thread, source, directory), report)
     }
 
     /// Clones a thread; answers the new one.
@@ -61,7 +96,7 @@ impl Broker {
     }
 
     /// What every call tests first.
-    fn begin(self, tables: &Tables, thread: u64) -> Result<(), u64> {
+    fn begin(self, tables: &Tables, thread: u64) -> Result<(), Verdict> {
         refuse(!(self.is_sound)(tables), EIO)?;
         refuse(!tables.is_thread(thread), ESRCH)
     }
@@ -72,8 +107,8 @@ impl Broker {
         refuse(kind == 0, ENOENT)?;
         refuse(asked == 0 || asked & !ALL_FS != 0, EINVAL)?;
         refuse(asked & !held_rights(kind) != 0, EINVAL)?;
-        let denied = lacks(tables, tables.youngest(thread), entry, asked);
-        refuse(denied, EACCES)?;
+        let youngest = tables.youngest(thread);
+        granted(access_verdict(tables, youngest, entry, asked))?;
         Ok(0)
     }
 
@@ -82,10 +117,10 @@ impl Broker {
         refuse(tables.kind(directory) == 0, ENOENT)?;
         refuse(tables.kind(directory) != DIRECTORY, ENOTDIR)?;
         refuse(kind == 0 || kind > LAST_KIND, EINVAL)?;
+        let youngest = tables.youngest(thread);
         let right = make_right(kind);
-        let denied = lacks(tables, tables.youngest(thread), directory, right);
-        refuse(denied, EACCES)?;
-        let entry = free_entry(tables).ok_or(ENOSPC)?;
+        granted(access_verdict(tables, youngest, directory, right))?;
+        let entry = free_entry(tables).ok_or(Verdict::refused(ENOSPC))?;
         let object = tables.system[1];
         refuse(object == OBJECTS_END, ENOSPC)?;
         tables.system[1] = object + 1;
@@ -98,9 +133,9 @@ impl Broker {
         let kind = tables.kind(entry);
         refuse(kind == 0, ENOENT)?;
         refuse(entry == 0, EBUSY)?;
+        let (youngest, parent) = (tables.youngest(thread), tables.parent(entry));
         let right = remove_right(kind);
-        let denied = lacks(tables, tables.youngest(thread), tables.parent(entry), right);
-        refuse(denied, EACCES)?;
+        granted(access_verdict(tables, youngest, parent, right))?;
         refuse(kind == DIRECTORY && has_child(tables, entry), ENOTEMPTY)?;
         tables.put_entry(entry, [0; ENTRY_WIDTH]);
         Ok(0)
@@ -113,8 +148,7 @@ impl Broker {
         refuse(source == 0, EBUSY)?;
         refuse(tables.kind(directory) != DIRECTORY, ENOTDIR)?;
         refuse(is_above(tables, source, directory), EINVAL)?;
-        let verdict = rename_verdict(tables, thread, source, directory);
-        refuse(verdict != 0, verdict)?;
+        granted(rename_verdict(tables, thread, source, directory))?;
         tables.entries[ENTRY_WIDTH * source as usize + 1] = directory;
         Ok(0)
     }
@@ -122,7 +156,8 @@ impl Broker {
     fn cloned(self, tables: &mut Tables, thread: u64) -> Answer {
         self.begin(tables, thread)?;
         let mut rows = tables.threads.chunks_exact(THREAD_WIDTH);
-        let free = rows.position(|row| row[0] == 0).ok_or(EAGAIN)?;
+        let free = rows.position(|row| row[0] == 0);
+        let free = free.ok_or(Verdict::refused(EAGAIN))?;
         let first = THREAD_WIDTH * thread as usize;
         let row = first..first + THREAD_WIDTH;
         tables.threads.copy_within(row, THREAD_WIDTH * free);

@@ -1,7 +1,7 @@
 //! Verdicts over structures of its own, made from the cells once.
 
-use super::verdict::Move;
-use crate::landlock::{handled, EACCES, EXDEV, PATH_RULE};
+use super::verdict::{joined, Move, Verdict};
+use crate::landlock::{handled, EACCES, PATH_RULE};
 use crate::tables::Tables;
 use skeinrabbit_sys::layout::{ENTRY_WIDTH, LAYER_WIDTH, RULE_WIDTH, THREAD_WIDTH};
 use std::collections::HashMap;
@@ -42,11 +42,11 @@ impl Policy {
         }
     }
 
-    /// The layers of a thread's domain.
-    fn domain(&self, thread: usize) -> impl Iterator<Item = &Layer> {
+    /// The layers of a thread's domain, each with its number + 1.
+    fn domain(&self, thread: usize) -> impl Iterator<Item = (u64, &Layer)> {
         self.domains[thread]
             .iter()
-            .map(|number| &self.layers[*number])
+            .map(|number| (*number as u64 + 1, &self.layers[*number]))
     }
 
     /// Of the rights asked for at an entry, those that the layer denies.
@@ -62,14 +62,19 @@ impl Policy {
         }
     }
 
-    /// Whether the thread's domain denies one of the rights at an entry.
-    pub fn lacks(&self, thread: usize, entry: usize, asked: u64) -> bool {
-        self.domain(thread)
-            .any(|layer| self.denied(layer, entry, asked) != 0)
+    /// The verdict on rights at an entry.
+    pub fn access_verdict(&self, thread: usize, entry: usize, asked: u64) -> Verdict {
+        let mut verdicts = self.domain(thread).map(|(number, layer)| Verdict {
+            errno: EACCES,
+            layer: number,
+            rights: self.denied(layer, entry, asked),
+        });
+        let refused = verdicts.find(|verdict| verdict.rights != 0);
+        refused.unwrap_or_default()
     }
 
-    /// The verdict on renaming an entry into a directory, with nothing replaced: 0 or an error number.
-    pub fn rename_verdict(&self, thread: usize, source: usize, directory: usize) -> u64 {
+    /// The verdict on renaming an entry into a directory, with nothing replaced.
+    pub fn rename_verdict(&self, thread: usize, source: usize, directory: usize) -> Verdict {
         let Entry {
             kind,
             parent,
@@ -77,21 +82,12 @@ impl Policy {
         } = self.entries[source];
         let step = Move::new(kind, parent as u64, directory as u64, object);
         let compared = step.compared();
-        let mut crossing = false;
-        for layer in self.domain(thread) {
+        joined(self.domain(thread).map(|(number, layer)| {
             let at_source = self.denied(layer, parent, step.leave | compared);
             let at_target = self.denied(layer, directory, step.enter | compared);
-            if step.is_denied(at_source, at_target) {
-                return EACCES;
-            }
             let own = || layer.rights_on(object);
-            crossing = crossing || step.is_crossing(at_source, at_target, own);
-        }
-        if crossing {
-            EXDEV
-        } else {
-            0
-        }
+            step.judged(number, at_source, at_target, own)
+        }))
     }
 }
 

@@ -28,8 +28,28 @@ pub fn missing(entries: &[u64], rules: &[u64], mut entry: u64, mut asked: u64) -
     }
 }
 
+/// What is answered about rights: 0 or an error number, and which layer refuses (its number + 1) with which rights.
+#[derive(Clone, Copy, Debug, Default, PartialEq, Eq)]
+pub struct Verdict {
+    pub errno: u64,
+    pub layer: u64,
+    pub rights: u64,
+}
+
+impl Verdict {
+    /// A refusal that is no layer's.
+    pub fn refused(errno: u64) -> Verdict {
+        Verdict {
+            errno,
+            ..Verdict::default()
+        }
+    }
+}
+
 /// What a layer's row and its part of the pool say.
 struct Layer<'a> {
+    /// Its number + 1.
+    number: u64,
     handled: u64,
     rules: &'a [u64],
 }
@@ -45,20 +65,28 @@ impl Layer<'_> {
 fn domain(tables: &Tables, youngest: u64) -> impl Iterator<Item = Layer<'_>> {
     let mut above = youngest;
     std::iter::from_fn(move || {
-        let number = above.checked_sub(1)? as usize;
-        let row = &tables.layers[LAYER_WIDTH * number..][..LAYER_WIDTH];
+        let number = above;
+        let place = number.checked_sub(1)? as usize;
+        let row = &tables.layers[LAYER_WIDTH * place..][..LAYER_WIDTH];
         above = row[0];
         let rules = &tables.pool[RULE_WIDTH * row[4] as usize..];
         Some(Layer {
+            number,
             handled: handled(row[1]),
             rules: &rules[..RULE_WIDTH * row[5] as usize],
         })
     })
 }
 
-/// Whether the domain denies one of the rights at an entry.
-pub fn lacks(tables: &Tables, youngest: u64, entry: u64, asked: u64) -> bool {
-    domain(tables, youngest).any(|layer| layer.denied(&tables.entries, entry, asked) != 0)
+/// The verdict on rights at an entry.
+pub fn access_verdict(tables: &Tables, youngest: u64, entry: u64, asked: u64) -> Verdict {
+    let mut verdicts = domain(tables, youngest).map(|layer| Verdict {
+        errno: EACCES,
+        layer: layer.number,
+        rights: layer.denied(&tables.entries, entry, asked),
+    });
+    let refused = verdicts.find(|verdict| verdict.rights != 0);
+    refused.unwrap_or_default()
 }
 
 /// A move of an entry to a directory, with nothing replaced.
@@ -94,23 +122,65 @@ impl Move {
         }
     }
 
-    /// Whether a need other than REFER is among the rights denied at each directory.
-    pub fn is_denied(&self, at_source: u64, at_target: u64) -> bool {
-        self.leave & at_source != 0 || self.enter & at_target != 0
+    /// The needs other than REFER among the rights denied at each directory.
+    fn denied(&self, at_source: u64, at_target: u64) -> u64 {
+        self.leave & at_source | self.enter & at_target
     }
 
-    /// Whether REFER is denied, or a right fails containment; `own` are the rights of the rule on the moved object.
-    pub fn is_crossing(&self, at_source: u64, at_target: u64, own: impl Fn() -> u64) -> bool {
+    /// REFER if it is denied, else the rights that fail containment; `own` are those of the rule on the moved object.
+    fn crossing(&self, at_source: u64, at_target: u64, own: impl Fn() -> u64) -> u64 {
         if self.from == self.to {
-            return false;
+            return 0;
         }
+        let refer = (at_source | at_target) & REFER;
         let gained = at_source & self.held & !at_target;
-        (at_source | at_target) & REFER != 0 || (gained != 0 && gained & !own() != 0)
+        if refer != 0 || gained == 0 {
+            return refer;
+        }
+        gained & !own()
+    }
+
+    /// What a layer answers that denies these rights at each directory.
+    pub fn judged(
+        &self,
+        layer: u64,
+        at_source: u64,
+        at_target: u64,
+        own: impl Fn() -> u64,
+    ) -> Verdict {
+        let denied = self.denied(at_source, at_target);
+        let crossing = || self.crossing(at_source, at_target, own);
+        let (errno, rights) = match denied {
+            0 => (EXDEV, crossing()),
+            _ => (EACCES, denied),
+        };
+        if rights == 0 {
+            return Verdict::default();
+        }
+        Verdict {
+            errno,
+            layer,
+            rights,
+        }
     }
 }
 
-/// The verdict on renaming an entry into a directory, with nothing replaced: 0 or an error number.
-pub fn rename_verdict(tables: &Tables, thread: u64, source: u64, directory: u64) -> u64 {
+/// Of what the layers answer, the youngest first: the first EACCES, else the first EXDEV.
+pub fn joined(verdicts: impl Iterator<Item = Verdict>) -> Verdict {
+    let mut crossing = Verdict::default();
+    for verdict in verdicts {
+        if verdict.errno == EACCES {
+            return verdict;
+        }
+        if crossing.errno == 0 {
+            crossing = verdict;
+        }
+    }
+    crossing
+}
+
+/// The verdict on renaming an entry into a directory, with nothing replaced.
+pub fn rename_verdict(tables: &Tables, thread: u64, source: u64, directory: u64) -> Verdict {
     let kind = tables.kind(source);
     let step = Move::new(
         kind,
@@ -119,19 +189,10 @@ pub fn rename_verdict(tables: &Tables, thread: u64, source: u64, directory: u64)
         tables.object(source),
     );
     let compared = step.compared();
-    let mut crossing = false;
-    for layer in domain(tables, tables.youngest(thread)) {
+    joined(domain(tables, tables.youngest(thread)).map(|layer| {
         let at_source = layer.denied(&tables.entries, step.from, step.leave | compared);
         let at_target = layer.denied(&tables.entries, step.to, step.enter | compared);
-        if step.is_denied(at_source, at_target) {
-            return EACCES;
-        }
         let own = || rights_on(layer.rules, step.object);
-        crossing = crossing || step.is_crossing(at_source, at_target, own);
-    }
-    if crossing {
-        EXDEV
-    } else {
-        0
-    }
+        step.judged(layer.number, at_source, at_target, own)
+    }))
 }

@@ -5,7 +5,7 @@ use super::{policies, sound_tables};
 use crate::inputs::{self, Questions};
 use crate::landlock::{DIRECTORY, REGULAR};
 use crate::measure::{against, differ, duration, line, table, time, Effort, Side};
-use crate::plain::broker::Broker;
+use crate::plain::broker::{Broker, Report};
 use crate::plain::soundness::{is_sound, Buckets, Pairwise};
 use crate::plain::verdict::rename_verdict;
 use crate::tables::Tables;
@@ -90,33 +90,48 @@ const PROGRAMS: [Program; 3] = [
 ];
 
 impl Program {
-    fn access(self, tables: &mut Tables, entry: u64, asked: u64) -> u64 {
-        match self {
-            Program::Core => skeinrabbit_sys::access(tables.cells().shared(), THREAD, entry, asked),
-            Program::Plain(broker) => broker.access(tables, THREAD, entry, asked),
-        }
-    }
-
-    fn rename(self, tables: &mut Tables, source: u64, directory: u64) -> u64 {
+    fn access(self, tables: &mut Tables, (entry, asked): (u64, u64), report: &mut Report) -> u64 {
         match self {
             Program::Core => {
-                skeinrabbit_sys::rename(&mut tables.cells(), THREAD, source, directory, 0, 0)
+                skeinrabbit_sys::access(tables.cells().shared(), THREAD, entry, asked, report)
             }
-            Program::Plain(broker) => broker.rename(tables, THREAD, source, directory),
+            Program::Plain(broker) => broker.access(tables, THREAD, (entry, asked), report),
         }
     }
 
-    fn create(self, tables: &mut Tables, directory: u64, kind: u64) -> u64 {
+    fn rename(
+        self,
+        tables: &mut Tables,
+        (source, directory): (u64, u64),
+        report: &mut Report,
+    ) -> u64 {
         match self {
-            Program::Core => skeinrabbit_sys::create(&mut tables.cells(), THREAD, directory, kind),
-            Program::Plain(broker) => broker.create(tables, THREAD, directory, kind),
+            Program::Core => {
+                let tables = &mut tables.cells();
+                skeinrabbit_sys::rename(tables, THREAD, source, directory, 0, 0, report)
+            }
+            Program::Plain(broker) => broker.rename(tables, THREAD, (source, directory), report),
         }
     }
 
-    fn remove(self, tables: &mut Tables, entry: u64) -> u64 {
+    fn create(
+        self,
+        tables: &mut Tables,
+        (directory, kind): (u64, u64),
+        report: &mut Report,
+    ) -> u64 {
         match self {
-            Program::Core => skeinrabbit_sys::remove(&mut tables.cells(), THREAD, entry),
-            Program::Plain(broker) => broker.remove(tables, THREAD, entry),
+            Program::Core => {
+                skeinrabbit_sys::create(&mut tables.cells(), THREAD, directory, kind, report)
+            }
+            Program::Plain(broker) => broker.create(tables, THREAD, (directory, kind), report),
+        }
+    }
+
+    fn remove(self, tables: &mut Tables, entry: u64, report: &mut Report) -> u64 {
+        match self {
+            Program::Core => skeinrabbit_sys::remove(&mut tables.cells(), THREAD, entry, report),
+            Program::Plain(broker) => broker.remove(tables, THREAD, entry, report),
         }
     }
 
@@ -178,19 +193,19 @@ impl Script {
         matches!(self, Script::Access(_))
     }
 
-    fn call(&self, program: Program, tables: &mut Tables, i: u64) -> u64 {
+    fn call(&self, program: Program, tables: &mut Tables, i: u64, report: &mut Report) -> u64 {
         let back = i % 2 == 1;
         match self {
-            Script::Access(requests) => {
-                let (entry, asked) = requests.at(i);
-                program.access(tables, entry, asked)
-            }
+            Script::Access(requests) => program.access(tables, requests.at(i), report),
             Script::Rename(requests) => {
                 let [source, home, away] = requests.at(i / 2);
-                program.rename(tables, source, if back { home } else { away })
+                let directory = if back { home } else { away };
+                program.rename(tables, (source, directory), report)
             }
-            Script::Create { directory, .. } if back => program.create(tables, *directory, REGULAR),
-            Script::Create { entry, .. } => program.remove(tables, *entry),
+            Script::Create { directory, .. } if back => {
+                program.create(tables, (*directory, REGULAR), report)
+            }
+            Script::Create { entry, .. } => program.remove(tables, *entry, report),
             Script::Clone if back => program.end(tables),
             Script::Clone => program.clone_thread(tables),
             Script::Copied { start, ends } => {
@@ -216,8 +231,8 @@ fn granted_rename(tables: &Tables, random: &mut Random) -> [u64; 3] {
         let home = tables.parent(source);
         let mut moved = tables.clone();
         moved.put_entry(source, [tables.kind(source), away, tables.object(source)]);
-        let granted = rename_verdict(tables, THREAD, source, away) == 0
-            && rename_verdict(&moved, THREAD, source, home) == 0;
+        let granted = rename_verdict(tables, THREAD, source, away).errno == 0
+            && rename_verdict(&moved, THREAD, source, home).errno == 0;
         if granted && home != away {
             return [source, home, away];
         }
@@ -230,12 +245,17 @@ fn compare(effort: Effort, name: &str, tables: &Tables, script: &Script) {
         differ(name);
     }
     assert!(
-        script.may_refuse() || ends[0].0.iter().all(|answer| *answer <= u32::MAX.into()),
+        script.may_refuse()
+            || ends[0]
+                .0
+                .iter()
+                .all(|(answer, _)| *answer <= u32::MAX.into()),
         "{name}: every call is granted"
     );
     let mut sides = PROGRAMS.map(|program| {
         let mut tables = tables.clone();
-        move |i: u64| script.call(program, &mut tables, i)
+        let mut report = Report::default();
+        move |i: u64| script.call(program, &mut tables, i, &mut report)
     });
     let [core, pairwise, fast] = sides.each_mut().map(|side| side as &mut dyn Side);
     let mut sum = |_: u64| tables.sum();
@@ -245,8 +265,12 @@ fn compare(effort: Effort, name: &str, tables: &Tables, script: &Script) {
     line(name, &cells);
 }
 
-/// The answers to the first calls, and the tables they leave.
-fn play(program: Program, mut tables: Tables, script: &Script) -> (Vec<u64>, Tables) {
-    let answers = (0..COMPARED).map(|i| script.call(program, &mut tables, i));
+/// The answers to the first calls with their reports, and the tables they leave.
+fn play(program: Program, mut tables: Tables, script: &Script) -> (Vec<(u64, Report)>, Tables) {
+    let answers = (0..COMPARED).map(|i| {
+        let mut report = Report::default();
+        let answer = script.call(program, &mut tables, i, &mut report);
+        (answer, report)
+    });
     (answers.collect(), tables)
 }

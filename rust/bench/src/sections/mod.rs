@@ -47,16 +47,25 @@ fn policies() -> [(&'static str, Tables); 6] {
 }
 
 /// The tables that the soundness test is measured on, alone and in a whole access call.
-fn sound_tables() -> [(&'static str, Tables); 5] {
-    let crowded = inputs::crowded();
+fn sound_tables() -> [(&'static str, Tables); 8] {
+    let (crowded, full) = (inputs::crowded(), inputs::full());
     [
         ("4 entries, no layer", inputs::fresh()),
         ("1,000 entries, 41 layers of 4 to 36 rules", crowded.clone()),
         (
             "the same, objects all in one bucket",
-            inputs::one_bucket(crowded),
+            inputs::spread(crowded.clone(), 1024),
         ),
+        (
+            "the same, objects in the deepest tree",
+            inputs::spread(crowded, 1 << 22),
+        ),
+        ("1,000 hard links of one file", inputs::linked()),
         ("1,023 deep, 1 layer", inputs::chain()),
-        ("every table full", inputs::full()),
+        ("every table full", full.clone()),
+        (
+            "every table full, objects in the deepest tree",
+            inputs::spread(full, 1 << 22),
+        ),
     ]
 }

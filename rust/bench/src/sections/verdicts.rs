@@ -78,11 +78,12 @@ fn access(effort: Effort, name: &str, tables: &Tables) {
             },
             &mut |i: u64| {
                 let (entry, asked) = requests.at(i);
-                verdict::lacks(tables, youngest, entry, asked).into()
+                u64::from(verdict::access_verdict(tables, youngest, entry, asked).errno != 0)
             },
             &mut |i: u64| {
                 let (entry, asked) = requests.at(i);
-                policy.lacks(THREAD as usize, entry as usize, asked).into()
+                let verdict = policy.access_verdict(THREAD as usize, entry as usize, asked);
+                u64::from(verdict.errno != 0)
             },
         ],
     );
@@ -102,11 +103,14 @@ fn rename(effort: Effort, name: &str, tables: &Tables) {
             },
             &mut |i: u64| {
                 let (source, directory) = requests.at(i);
-                verdict::rename_verdict(tables, THREAD, source, directory)
+                verdict::rename_verdict(tables, THREAD, source, directory).errno
             },
             &mut |i: u64| {
                 let (source, directory) = requests.at(i);
-                policy.rename_verdict(THREAD as usize, source as usize, directory as usize)
+                let [source, directory] = [source, directory].map(|entry| entry as usize);
+                policy
+                    .rename_verdict(THREAD as usize, source, directory)
+                    .errno
             },
         ],
     );

@@ -21,6 +21,7 @@ fn calls() -> Vec<Call> {
     let (thread, ruleset, flags) = (0, 0, 0);
     let (source, entry, directory, replaces) = (1, 1, 0, 0);
     let (port, rights, kind) = (80, 1, 1);
+    let report = 5;
     let calls = vec![
         Call::CreateRuleset {
             bytes: vec![1, 0, 0, 0, 0, 0, 0, 0],
@@ -44,10 +45,7 @@ fn calls() -> Vec<Call> {
             ruleset,
             flags,
         },
-        Call::LayerRules {
-            layer: 0,
-            report: 3,
-        },
+        Call::LayerRules { layer: 0, report },
         Call::Clone { thread },
         Call::End { thread },
         Call::SetNoNewPrivs { thread },
@@ -56,22 +54,30 @@ fn calls() -> Vec<Call> {
             thread,
             entry,
             rights,
+            report,
         },
         Call::Port {
             thread,
             port,
             rights,
+            report,
         },
         Call::Create {
             thread,
             directory,
             kind,
+            report,
         },
-        Call::Remove { thread, entry },
+        Call::Remove {
+            thread,
+            entry,
+            report,
+        },
         Call::Link {
             thread,
             source,
             directory,
+            report,
         },
         Call::Rename {
             thread,
@@ -79,12 +85,14 @@ fn calls() -> Vec<Call> {
             directory,
             replaces,
             entry,
+            report,
         },
         Call::Exchange {
             thread,
             source,
             directory,
             entry,
+            report,
         },
     ];
     assert_eq!(calls.len() + 1, Call::NAMES.len());

@@ -3,7 +3,7 @@ use super::{Explained, Held, LayerView, Node, PortView, ThreadView};
 use crate::json::Json;
 use crate::play::Play;
 use crate::transcript::{call_json, rights_json};
-use skeinrabbit::Entry;
+use skeinrabbit::{Entry, Layer};
 
 /// The members of the JSON document of `skein explain`; no entries, threads and layers where there is no picture.
 pub fn json(file: &str, play: &Play, explained: &Explained) -> Json {
@@ -61,13 +61,8 @@ fn thread_json(view: &ThreadView, nodes: &[Node]) -> Json {
         (
             "access",
             Json::list(entries, |(node, held)| {
-                let Held { granted, denied } = *held;
-                held_json(
-                    "entry",
-                    Json::Number(node.row.entry.number()),
-                    granted.iter(),
-                    denied.iter(),
-                )
+                let entry = Json::Number(node.row.entry.number());
+                held_json("entry", entry, held, |rights| rights_json(rights.iter()))
             }),
         ),
         ("ports", Json::list(&view.ports, port_json)),
@@ -94,25 +89,25 @@ fn layer_json(view: &LayerView) -> Json {
 }
 
 fn port_json(at: &PortView) -> Json {
-    let Held { granted, denied } = at.held;
-    held_json(
-        "port",
-        Json::option(at.port, Json::Number),
-        granted.iter(),
-        denied.iter(),
-    )
+    let port = Json::option(at.port, Json::Number);
+    held_json("port", port, &at.held, |rights| rights_json(rights.iter()))
 }
 
-/// What is granted and denied at something.
-fn held_json<R: ToString>(
+/// What is granted and denied at something, and by whom.
+fn held_json<R: Copy>(
     key: &'static str,
     number: Json,
-    granted: impl Iterator<Item = R>,
-    denied: impl Iterator<Item = R>,
+    held: &Held<R>,
+    names: impl Fn(R) -> Json,
 ) -> Json {
+    let by = |(layer, rights): (&Layer, &R)| {
+        let layer = Json::Number(layer.number());
+        Json::Object(vec![("layer", layer), ("rights", names(*rights))])
+    };
     Json::Object(vec![
         (key, number),
-        ("granted", rights_json(granted)),
-        ("denied", rights_json(denied)),
+        ("granted", names(held.granted)),
+        ("denied", names(held.denied)),
+        ("by", Json::list(&held.by, by)),
     ])
 }

@@ -10,9 +10,10 @@ pub use tree::Node;
 use crate::play::{Play, Player};
 use crate::scenario::Space;
 use skeinrabbit::{
-    EntryRow, Layer, LayerRow, Level, PortRights, Rights, Rule, Tables, Thread, ThreadRow,
+    EntryRow, Layer, LayerRow, Level, PortRights, Refusal, Rights, Rule, Tables, Thread, ThreadRow,
 };
-use std::collections::BTreeSet;
+use std::collections::{BTreeMap, BTreeSet};
+use std::ops::BitOrAssign;
 
 /// What a scenario leaves, as far as it may be shown.
 pub struct Explained {
@@ -69,10 +70,27 @@ pub struct LayerView {
 }
 
 /// What is granted and what is denied, of what was asked.
-#[derive(Clone, Copy, Default)]
+#[derive(Default)]
 pub struct Held<R> {
     pub granted: R,
     pub denied: R,
+    /// Who denies it: for each right the youngest layer that does.
+    pub by: BTreeMap<Layer, R>,
+}
+
+impl<R: BitOrAssign + Copy + Default> Held<R> {
+    /// Adds a right with what was answered about it.
+    fn add(&mut self, right: R, answer: Result<(), Refusal<R>>) {
+        match answer {
+            Ok(()) => self.granted |= right,
+            Err(refusal) => {
+                self.denied |= right;
+                if let Refusal::Denied { layer, rights } = refusal {
+                    *self.by.entry(layer).or_default() |= rights;
+                }
+            }
+        }
+    }
 }
 
 /// What a thread may do at a port, or at any port that no rule names.
@@ -152,10 +170,7 @@ fn held_at(tables: &mut Tables, thread: Thread, row: EntryRow, columns: Rights) 
         return held;
     }
     for right in asked.iter() {
-        match tables.access(thread, row.entry, right) {
-            Ok(()) => held.granted |= right,
-            Err(_) => held.denied |= right,
-        }
+        held.add(right, tables.access(thread, row.entry, right));
     }
     held
 }
@@ -189,10 +204,7 @@ fn port_views(tables: &mut Tables, thread: Thread, named: &BTreeSet<u64>) -> Vec
 fn held_at_port(tables: &mut Tables, thread: Thread, port: u64) -> Held<PortRights> {
     let mut held = Held::default();
     for right in PortRights::ALL.iter() {
-        match tables.port(thread, port, right) {
-            Ok(()) => held.granted |= right,
-            Err(_) => held.denied |= right,
-        }
+        held.add(right, tables.port(thread, port, right));
     }
     held
 }

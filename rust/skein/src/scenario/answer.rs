@@ -1,4 +1,5 @@
 //! Answers, and what a line says the answer must be.
+use super::report::{Report, ReportWords, Sort};
 use super::Bad;
 use crate::words::one_of;
 use skeinrabbit::{parse_number, Errno};
@@ -24,9 +25,39 @@ impl fmt::Display for Answer {
     }
 }
 
+/// What a call must answer and report.
+#[derive(Clone, Copy, Debug, PartialEq, Eq)]
+pub struct Expected {
+    pub answer: ExpectedAnswer,
+    pub report: ReportWords,
+}
+
+impl Expected {
+    /// Reads the words after `=>`, of a call that is refused for rights of a sort or for none.
+    pub fn parse(words: &[&str], sort: Option<Sort>) -> Result<Expected, Bad> {
+        let (answer, more) = ExpectedAnswer::parse(words)?;
+        let report = ReportWords::parse(more, sort)?;
+        if answer == ExpectedAnswer::Any && !report.is_empty() {
+            let found = "`layer=` or `rights=` after `any`";
+            return Err(Bad::new(found, "`any` alone"));
+        }
+        Ok(Expected { answer, report })
+    }
+
+    pub fn is_met_by(self, answer: Answer, report: Option<Report>) -> bool {
+        self.answer.is_met_by(answer) && self.report.is_met_by(report)
+    }
+}
+
+impl fmt::Display for Expected {
+    fn fmt(&self, f: &mut fmt::Formatter<'_>) -> fmt::Result {
+        write!(f, "{}{}", self.answer, self.report)
+    }
+}
+
 /// What a call must answer.
 #[derive(Clone, Copy, Debug, PartialEq, Eq)]
-pub enum Expected {
+pub enum ExpectedAnswer {
     /// Whatever it likes.
     Any,
     /// Any success.
@@ -39,42 +70,43 @@ pub enum Expected {
     Error(Errno),
 }
 
-impl Expected {
-    /// Reads the words after `=>`.
-    pub fn parse(words: &[&str]) -> Result<Expected, Bad> {
+impl ExpectedAnswer {
+    /// Reads an answer; gives back the words after it.
+    fn parse<'a, 'w>(words: &'a [&'w str]) -> Result<(ExpectedAnswer, &'a [&'w str]), Bad> {
         match words {
             [] => Err(Bad::new("nothing after `=>`", "an answer")),
-            ["new", number] => match parse_number(number) {
-                Some(number) => Ok(Expected::New(number)),
+            ["new", number, more @ ..] if !number.contains('=') => match parse_number(number) {
+                Some(number) => Ok((ExpectedAnswer::New(number), more)),
                 None => Err(Bad::word(number, "a number after `new`")),
             },
-            [word] => Expected::word(word).ok_or_else(|| unknown(word)),
-            ["new", _, more, ..] | [_, more, ..] => {
-                Err(Bad::word(more, "the end of the line after the answer"))
-            }
+            [word, more @ ..] => match ExpectedAnswer::word(word) {
+                Some(answer) => Ok((answer, more)),
+                None => Err(unknown(word)),
+            },
         }
     }
 
-    fn word(word: &str) -> Option<Expected> {
+    fn word(word: &str) -> Option<ExpectedAnswer> {
         match word {
-            "any" => Some(Expected::Any),
-            "ok" => Some(Expected::Success),
-            "new" => Some(Expected::Made),
+            "any" => Some(ExpectedAnswer::Any),
+            "ok" => Some(ExpectedAnswer::Success),
+            "new" => Some(ExpectedAnswer::Made),
             _ => {
-                let number = parse_number(word).map(Expected::Number);
-                number.or_else(|| word.parse().ok().map(Expected::Error))
+                let number = parse_number(word).map(ExpectedAnswer::Number);
+                number.or_else(|| word.parse().ok().map(ExpectedAnswer::Error))
             }
         }
     }
 
-    pub fn is_met_by(self, answer: Answer) -> bool {
+    fn is_met_by(self, answer: Answer) -> bool {
+        use ExpectedAnswer::{Any, Error, Made, New, Number, Success};
         match (self, answer) {
-            (Expected::Any, _)
-            | (Expected::Success, Answer::Done | Answer::New(_))
-            | (Expected::Made, Answer::New(_))
-            | (Expected::Number(0), Answer::Done) => true,
-            (Expected::Number(number) | Expected::New(number), Answer::New(made)) => number == made,
-            (Expected::Error(expected), Answer::Refused(errno)) => expected == errno,
+            (Any, _)
+            | (Success, Answer::Done | Answer::New(_))
+            | (Made, Answer::New(_))
+            | (Number(0), Answer::Done) => true,
+            (Number(number) | New(number), Answer::New(made)) => number == made,
+            (Error(expected), Answer::Refused(errno)) => expected == errno,
             _ => false,
         }
     }
@@ -88,15 +120,15 @@ fn unknown(word: &str) -> Bad {
     Bad::word(word, one_of(what, word, &known))
 }
 
-impl fmt::Display for Expected {
+impl fmt::Display for ExpectedAnswer {
     fn fmt(&self, f: &mut fmt::Formatter<'_>) -> fmt::Result {
         match self {
-            Expected::Any => f.pad("any"),
-            Expected::Success => f.pad("ok"),
-            Expected::Made => f.pad("new"),
-            Expected::Number(number) => number.fmt(f),
-            Expected::New(number) => f.pad(&format!("new {number}")),
-            Expected::Error(errno) => errno.fmt(f),
+            ExpectedAnswer::Any => f.pad("any"),
+            ExpectedAnswer::Success => f.pad("ok"),
+            ExpectedAnswer::Made => f.pad("new"),
+            ExpectedAnswer::Number(number) => number.fmt(f),
+            ExpectedAnswer::New(number) => f.pad(&format!("new {number}")),
+            ExpectedAnswer::Error(errno) => errno.fmt(f),
         }
     }
 }

@@ -4,6 +4,7 @@ use super::attribute::create_ruleset;
 use super::call::{Call, Move, RulesetCall, ThreadCall, TreeCall};
 use super::names::Space;
 use super::poke::poke;
+use super::report::Sort;
 use super::Bad;
 use crate::words::one_of;
 use skeinrabbit::{parse_number, Layer, Level};
@@ -14,13 +15,28 @@ pub struct Form {
     usage: &'static str,
     /// What a success makes, and so what its name stands for.
     pub makes: Option<Space>,
+    /// The sort of rights that a layer may refuse it for.
+    pub refused_for: Option<Sort>,
     read: Read,
 }
 
 type Read = fn(&mut Arguments) -> Result<Call, Bad>;
 
 const fn form(usage: &'static str, makes: Option<Space>, read: Read) -> Form {
-    Form { usage, makes, read }
+    Form {
+        usage,
+        makes,
+        refused_for: None,
+        read,
+    }
+}
+
+/// A call with a verdict.
+const fn judged(usage: &'static str, makes: Option<Space>, sort: Sort, read: Read) -> Form {
+    Form {
+        refused_for: Some(sort),
+        ..form(usage, makes, read)
+    }
 }
 
 const CREATE_RULESET: &str =
@@ -47,13 +63,33 @@ static FORMS: [Form; 19] = [
     form("end THREAD", None, end),
     form("set_no_new_privs THREAD", None, set_no_new_privs),
     form("set_admin THREAD ON", None, set_admin),
-    form("access THREAD ENTRY RIGHTS", None, access),
-    form("port THREAD PORT RIGHTS", None, port),
-    form("create THREAD DIRECTORY KIND", Some(Space::Entry), create),
-    form("remove THREAD ENTRY", None, remove),
-    form("link THREAD SOURCE DIRECTORY", Some(Space::Entry), link),
-    form("rename THREAD SOURCE DIRECTORY [ENTRY]", None, rename),
-    form("exchange THREAD SOURCE DIRECTORY ENTRY", None, exchange),
+    judged("access THREAD ENTRY RIGHTS", None, Sort::Files, access),
+    judged("port THREAD PORT RIGHTS", None, Sort::Ports, port),
+    judged(
+        "create THREAD DIRECTORY KIND",
+        Some(Space::Entry),
+        Sort::Files,
+        create,
+    ),
+    judged("remove THREAD ENTRY", None, Sort::Files, remove),
+    judged(
+        "link THREAD SOURCE DIRECTORY",
+        Some(Space::Entry),
+        Sort::Files,
+        link,
+    ),
+    judged(
+        "rename THREAD SOURCE DIRECTORY [ENTRY]",
+        None,
+        Sort::Files,
+        rename,
+    ),
+    judged(
+        "exchange THREAD SOURCE DIRECTORY ENTRY",
+        None,
+        Sort::Files,
+        exchange,
+    ),
     form("poke TABLE CELL VALUE [COUNT STEP RISE]", None, poke),
 ];
 

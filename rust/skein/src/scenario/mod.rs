@@ -7,10 +7,12 @@ mod forms;
 mod names;
 mod poke;
 mod repeat;
+mod report;
 
-pub use answer::{Answer, Expected};
+pub use answer::{Answer, Expected, ExpectedAnswer};
 pub use call::{Call, Masks, Move, RulesetBytes, RulesetCall, ThreadCall, TreeCall};
 pub use names::{Names, Operand, Space};
+pub use report::{Mask, Report, ReportWords};
 
 use crate::words::quoted;
 use arguments::Arguments;
@@ -43,15 +45,19 @@ pub struct Statement {
 }
 
 impl Statement {
-    /// Whether an answer is one that the line allows.
-    pub fn allows(&self, answer: Answer) -> bool {
-        let expected = self.expected.unwrap_or(Expected::Success);
-        expected.is_met_by(answer)
+    /// Whether an answer, with its report where the call has one, is one that the line allows.
+    pub fn allows(&self, answer: Answer, report: Option<Report>) -> bool {
+        let success = Expected {
+            answer: ExpectedAnswer::Success,
+            report: ReportWords::default(),
+        };
+        self.expected.unwrap_or(success).is_met_by(answer, report)
     }
 
     /// Whether the line names an answer, or a kind of answer.
     pub fn names_an_answer(&self) -> bool {
-        !matches!(self.expected, None | Some(Expected::Any))
+        let named = |expected: Expected| expected.answer != ExpectedAnswer::Any;
+        self.expected.is_some_and(named)
     }
 }
 
@@ -148,7 +154,8 @@ impl Reader {
         if rounds.is_some() && binds.is_some() {
             return Err(Bad::word("->", "no name for a call that is repeated"));
         }
-        let expected = answer.map(Expected::parse).transpose()?;
+        let expected = answer.map(|words| Expected::parse(words, form.refused_for));
+        let expected = expected.transpose()?;
         self.statements.push(Statement {
             line,
             heading,

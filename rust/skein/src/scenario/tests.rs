@@ -1,6 +1,6 @@
 //! Tests of the reader.
 use super::*;
-use skeinrabbit::{Attribute, Errno, Kind, PortRights, Rights, Scopes, Table};
+use skeinrabbit::{Attribute, Errno, Kind, Layer, PortRights, Rights, Scopes, Table};
 
 /// The only statement of a line that reads well.
 fn statement(line: &str) -> Statement {
@@ -18,6 +18,14 @@ fn bad(text: &str) -> Vec<(usize, String, String)> {
 
 fn number(number: u64) -> Operand {
     Operand::Number(number)
+}
+
+/// An answer of which nothing else is said.
+fn plain(answer: ExpectedAnswer) -> Expected {
+    Expected {
+        answer,
+        report: ReportWords::default(),
+    }
 }
 
 fn name(name: &str) -> Operand {
@@ -63,7 +71,7 @@ fn names_and_answers_are_taken_off() {
     let read = statement("create main root regular -> page.1 => new 0x5");
     assert_eq!(read.text, "create main root regular");
     assert_eq!(read.binds, Some((Space::Entry, "page.1".to_owned())));
-    assert_eq!(read.expected, Some(Expected::New(5)));
+    assert_eq!(read.expected, Some(plain(ExpectedAnswer::New(5))));
     let thread = name("main");
     let directory = name("root");
     let kind = Kind::REGULAR;
@@ -74,25 +82,27 @@ fn names_and_answers_are_taken_off() {
 #[test]
 fn every_form_of_answer_is_read() {
     let expected = |answer: &str| {
-        statement(&format!("clone main => {answer}"))
-            .expected
-            .unwrap()
+        let read = statement(&format!("clone main => {answer}"));
+        let Expected { answer, report } = read.expected.unwrap();
+        assert!(report.is_empty());
+        answer
     };
-    assert_eq!(expected("0"), Expected::Number(0));
-    assert_eq!(expected("0x10"), Expected::Number(16));
-    assert_eq!(expected("new 3"), Expected::New(3));
-    assert_eq!(expected("new"), Expected::Made);
-    assert_eq!(expected("ok"), Expected::Success);
-    assert_eq!(expected("any"), Expected::Any);
-    assert_eq!(expected("EACCES"), Expected::Error(Errno::EACCES));
-    assert_eq!(expected("-13"), Expected::Error(Errno::EACCES));
+    assert_eq!(expected("0"), ExpectedAnswer::Number(0));
+    assert_eq!(expected("0x10"), ExpectedAnswer::Number(16));
+    assert_eq!(expected("new 3"), ExpectedAnswer::New(3));
+    assert_eq!(expected("new"), ExpectedAnswer::Made);
+    assert_eq!(expected("ok"), ExpectedAnswer::Success);
+    assert_eq!(expected("any"), ExpectedAnswer::Any);
+    assert_eq!(expected("EACCES"), ExpectedAnswer::Error(Errno::EACCES));
+    assert_eq!(expected("-13"), ExpectedAnswer::Error(Errno::EACCES));
 }
 
 #[test]
 fn answers_meet_what_is_expected() {
     let met = |expected: &str, answer| {
         let words: Vec<&str> = expected.split(' ').collect();
-        Expected::parse(&words).unwrap().is_met_by(answer)
+        let expected = Expected::parse(&words, None).unwrap();
+        expected.is_met_by(answer, None)
     };
     assert!(met("0", Answer::Done) && met("5", Answer::New(5)) && met("new 5", Answer::New(5)));
     assert!(met("EIO", Answer::Refused(Errno::EIO)) && met("-5", Answer::Refused(Errno::EIO)));
@@ -108,12 +118,62 @@ fn answers_meet_what_is_expected() {
 }
 
 #[test]
+fn a_line_may_name_the_layer_and_the_rights() {
+    let met = |line: &str, layer: Option<u64>, rights| {
+        let layer = layer.map(Layer::new);
+        let report = Report { layer, rights };
+        let answer = Answer::Refused(Errno::EACCES);
+        statement(line).allows(answer, Some(report))
+    };
+    let both = Mask::Files(Rights::READ_FILE | Rights::WRITE_FILE);
+    let none = Mask::Files(Rights::NONE);
+    let line = "access main root 6 => EACCES rights=read_file+write_file layer=0x2";
+    assert!(met(line, Some(2), both) && met("access main root 6 => EACCES", Some(2), both));
+    assert!(!met(line, Some(1), both) && !met(line, None, both) && !met(line, Some(2), none));
+    let line = "remove main root => -13 layer=none";
+    assert!(met(line, None, none) && met(line, None, both) && !met(line, Some(0), none));
+    let line = "remove main root => EACCES rights=none";
+    assert!(met(line, None, none) && !met(line, None, both));
+    assert!(!met("remove main root => EBUSY layer=none", None, none));
+    let line = "port main 80 3 => EACCES layer=0 rights=connect_tcp";
+    assert!(met(line, Some(0), Mask::Ports(PortRights::CONNECT_TCP)));
+    assert!(!met(line, Some(0), Mask::Files(Rights::WRITE_FILE)));
+    let read = statement("link main 1 root => new 0x5 rights=0 layer=none").expected;
+    assert_eq!(read.unwrap().to_string(), "new 5 layer=none rights=none");
+    let read = statement("create main root 1 => new layer=none").expected;
+    assert_eq!(read.unwrap().to_string(), "new layer=none");
+}
+
+#[test]
+fn words_about_a_report_that_are_no_such_words_are_bad_input() {
+    for (line, word) in [
+        ("access main root 6 => EACCES layer", "layer"),
+        ("access main root 6 => EACCES layer=x", "x"),
+        ("access main root 6 => EACCES layer=", ""),
+        ("access main root 6 => EACCES rights=bind_tcp", "bind_tcp"),
+        ("port main 80 3 => EACCES rights=read_file", "read_file"),
+        ("access main root 6 => EACCES layer=0 layer=0", "layer=0"),
+        ("access main root 6 => EACCES more", "more"),
+        ("access main root 6 => EACCES entries=1", "entries=1"),
+        ("clone main => new 1 layer=0", "layer=0"),
+        ("add_path_rule 0 root 4 => 0 rights=4", "rights=4"),
+        ("clone main => new 1 more", "more"),
+    ] {
+        let bad = bad(line);
+        assert_eq!(bad.len(), 1, "{line}");
+        assert_eq!(bad[0].1, format!("`{word}`"), "{line}");
+    }
+    let any = bad("access main root 6 => any layer=0");
+    assert_eq!(any[0].2, "`any` alone");
+}
+
+#[test]
 fn a_line_that_expects_nothing_allows_any_success() {
     let plain = statement("clone main");
     assert_eq!(plain.expected, None);
-    assert!(plain.allows(Answer::Done) && plain.allows(Answer::New(9)));
+    assert!(plain.allows(Answer::Done, None) && plain.allows(Answer::New(9), None));
     for errno in Errno::ALL {
-        assert!(!plain.allows(Answer::Refused(*errno)), "{errno}");
+        assert!(!plain.allows(Answer::Refused(*errno), None), "{errno}");
     }
     let names_an_answer = |answer: &str| {
         let line = format!("clone main => {answer}");
@@ -285,7 +345,7 @@ fn a_call_may_be_repeated() {
         ("repeat 0x10 clone main", "clone")
     );
     assert_eq!(read.call, statement("clone main").call);
-    assert_eq!(read.expected, Some(Expected::Made));
+    assert_eq!(read.expected, Some(plain(ExpectedAnswer::Made)));
     assert_eq!(statement("clone main").rounds, None);
     for rounds in [1, 100_000] {
         let line = format!("repeat {rounds} clone main");

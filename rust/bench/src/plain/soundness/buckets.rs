@@ -1,4 +1,4 @@
-//! Near-linear: entries in buckets by object, marks along climbs, bit maps for keys and pool places.
+//! Near-linear: entries in buckets by object and in a search tree in each, marks along climbs, bit maps for keys and pool places.
 
 use super::{unlike_those_before, Method};
 use crate::landlock::DIRECTORY;
@@ -9,6 +9,8 @@ use skeinrabbit_sys::layout::{
 };
 
 const BUCKETS: usize = 1024;
+/// The children of a node of a bucket's tree.
+const BRANCHES: usize = 4;
 const KEY_FLAGS: usize = 1024;
 /// Cells joined at a time when looking for one that isn't zero, and rows of entries.
 const BLOCK: usize = 8;
@@ -17,10 +19,10 @@ const WORD: usize = u64::BITS as usize;
 
 pub struct Buckets<'a> {
     entries: &'a [u64],
-    /// For each bucket its last live entry + 1, or 0.
+    /// For each bucket the root of its tree, an entry + 1, or 0.
     heads: [u16; BUCKETS],
-    /// For each live entry the one before it in its bucket, + 1, or 0.
-    links: [u16; MAX_ENTRIES],
+    /// For each entry in a tree its children, each + 1, or 0.
+    links: [u16; BRANCHES * MAX_ENTRIES],
 }
 
 impl<'a> Method<'a> for Buckets<'a> {
@@ -28,7 +30,7 @@ impl<'a> Method<'a> for Buckets<'a> {
         let mut buckets = Buckets {
             entries,
             heads: [0; BUCKETS],
-            links: [0; MAX_ENTRIES],
+            links: [0; BRANCHES * MAX_ENTRIES],
         };
         let sound = climbs_end(entries, end) && (0..end).all(|entry| buckets.add(entry));
         sound.then_some(buckets)
@@ -41,11 +43,9 @@ impl<'a> Method<'a> for Buckets<'a> {
     }
 
     fn is_file_object(&self, object: u64) -> bool {
-        let mut entries = self.in_bucket_of(object);
-        entries.any(|entry| {
-            self.entries[ENTRY_WIDTH * entry + 2] == object
-                && self.entries[ENTRY_WIDTH * entry] != DIRECTORY
-        })
+        let root = usize::from(self.heads[object as usize % BUCKETS]);
+        let is_file = |entry: usize| self.entries[ENTRY_WIDTH * entry] != DIRECTORY;
+        root != 0 && self.search(object, root).is_ok_and(is_file)
     }
 
     type Seen = [u64; KEY_FLAGS / WORD];
@@ -91,7 +91,7 @@ impl<'a> Method<'a> for Buckets<'a> {
 }
 
 impl Buckets<'_> {
-    /// Adds an entry if it is live; answers whether it agrees with those of its object added before.
+    /// Adds an entry if it is live and the first of its object; otherwise answers whether it agrees with the first.
     fn add(&mut self, entry: usize) -> bool {
         let (kind, object) = (
             self.entries[ENTRY_WIDTH * entry],
@@ -100,20 +100,36 @@ impl Buckets<'_> {
         if kind == 0 {
             return true;
         }
-        let sound = self.in_bucket_of(object).all(|other| {
-            let other = &self.entries[ENTRY_WIDTH * other..][..ENTRY_WIDTH];
-            other[2] != object || (other[0] == kind && kind != DIRECTORY)
-        });
         let head = &mut self.heads[object as usize % BUCKETS];
-        self.links[entry] = std::mem::replace(head, entry as u16 + 1);
-        sound
+        let root = usize::from(*head);
+        if root == 0 {
+            *head = entry as u16 + 1;
+            return true;
+        }
+        match self.search(object, root) {
+            Ok(first) => kind == self.entries[ENTRY_WIDTH * first] && kind != DIRECTORY,
+            Err(link) => {
+                self.links[link] = entry as u16 + 1;
+                true
+            }
+        }
     }
 
-    /// The entries in an object's bucket, last one first.
-    fn in_bucket_of(&self, object: u64) -> impl Iterator<Item = usize> + '_ {
-        let entry = |link: u16| link.checked_sub(1).map(usize::from);
-        let head = self.heads[object as usize % BUCKETS];
-        std::iter::successors(entry(head), move |at| entry(self.links[*at]))
+    /// The entry that stands for an object in the tree, or the link where it would be.
+    fn search(&self, object: u64, root: usize) -> Result<usize, usize> {
+        let (mut at, mut key) = (root, object / BUCKETS as u64);
+        loop {
+            let entry = at - 1;
+            if self.entries[ENTRY_WIDTH * entry + 2] == object {
+                return Ok(entry);
+            }
+            let link = BRANCHES * entry + key as usize % BRANCHES;
+            at = usize::from(self.links[link]);
+            if at == 0 {
+                return Err(link);
+            }
+            key /= BRANCHES as u64;
+        }
     }
 }
 

@@ -1,0 +1,2 @@
+-- How an entry goes into the index of objects.
+pub mod Adds

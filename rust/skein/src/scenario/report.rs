@@ -1,0 +1,116 @@
+//! What a request or a change of the tree says beside its answer, and what a line says of that.
+use super::arguments::{number, value};
+use super::Bad;
+use skeinrabbit::{Layer, PortRights, Rights};
+use std::fmt;
+
+/// Which layer refused, and for which rights; no layer and no rights where none did.
+#[derive(Clone, Copy, Debug, PartialEq, Eq)]
+pub struct Report {
+    pub layer: Option<Layer>,
+    pub rights: Mask,
+}
+
+/// Rights of one sort or the other.
+#[derive(Clone, Copy, Debug, PartialEq, Eq)]
+pub enum Mask {
+    Files(Rights),
+    Ports(PortRights),
+}
+
+impl fmt::Display for Mask {
+    fn fmt(&self, f: &mut fmt::Formatter<'_>) -> fmt::Result {
+        match self {
+            Mask::Files(rights) => rights.fmt(f),
+            Mask::Ports(rights) => rights.fmt(f),
+        }
+    }
+}
+
+/// The sort of rights that a call is refused for.
+#[derive(Clone, Copy)]
+pub enum Sort {
+    Files,
+    Ports,
+}
+
+impl Sort {
+    fn mask(self, word: &str) -> Result<Mask, Bad> {
+        match self {
+            Sort::Files => value(word).map(Mask::Files),
+            Sort::Ports => value(word).map(Mask::Ports),
+        }
+    }
+}
+
+/// The words after an answer: what a line says of the report. What it does not say may be anything.
+#[derive(Clone, Copy, Debug, Default, PartialEq, Eq)]
+pub struct ReportWords {
+    /// The layer, or that there is none.
+    layer: Option<Option<Layer>>,
+    rights: Option<Mask>,
+}
+
+impl ReportWords {
+    /// Reads the words, each at most once and in any order, of a call that has a report.
+    pub fn parse(words: &[&str], sort: Option<Sort>) -> Result<ReportWords, Bad> {
+        let mut read = ReportWords::default();
+        for word in words {
+            let Some(sort) = sort else {
+                return Err(Bad::word(word, "the end of the line after the answer"));
+            };
+            read.take(word, sort)?;
+        }
+        Ok(read)
+    }
+
+    fn take(&mut self, word: &str, sort: Sort) -> Result<(), Bad> {
+        let again = match word.split_once('=') {
+            Some(("layer", text)) => self.layer.replace(layer(text)?).is_some(),
+            Some(("rights", text)) => self.rights.replace(sort.mask(text)?).is_some(),
+            _ => {
+                let expected = "layer=, rights= or the end of the line after the answer";
+                return Err(Bad::word(word, expected));
+            }
+        };
+        if again {
+            return Err(Bad::word(word, "it once"));
+        }
+        Ok(())
+    }
+
+    /// Whether nothing is said.
+    pub fn is_empty(self) -> bool {
+        self == ReportWords::default()
+    }
+
+    /// Whether a report is as the words say. Where they say nothing, a call need not have one.
+    pub fn is_met_by(self, report: Option<Report>) -> bool {
+        let layer = self.layer.is_none() || self.layer == report.map(|report| report.layer);
+        let rights = self.rights.is_none() || self.rights == report.map(|report| report.rights);
+        layer && rights
+    }
+}
+
+/// A layer's number, or that there is none.
+fn layer(word: &str) -> Result<Option<Layer>, Bad> {
+    if word == "none" {
+        return Ok(None);
+    }
+    number(word, "a layer or `none`").map(|number| Some(Layer::new(number)))
+}
+
+/// The words as they stand after an answer.
+impl fmt::Display for ReportWords {
+    fn fmt(&self, f: &mut fmt::Formatter<'_>) -> fmt::Result {
+        match self.layer {
+            Some(Some(layer)) => write!(f, " layer={layer}")?,
+            Some(None) => f.write_str(" layer=none")?,
+            None => {}
+        }
+        match self.rights {
+            Some(rights) => write!(f, " rights={rights}"),
+            None => Ok(()),
+        }
+    }
+}

@@ -1,0 +1,109 @@
+//! Why a request or a change of the tree is refused.
+use crate::errno::Errno;
+use crate::numbers::Layer;
+use core::fmt;
+
+/// The refusal of a request or of a change of the tree.
+///
+/// Where a layer refuses, this says which layer and which rights: of the layers of the thread's domain, the youngest with such
+/// rights. They are [`AccessFs`](crate::AccessFs), for a port [`AccessNet`](crate::AccessNet). Whoever needs the number alone
+/// makes it an [`Errno`], as `?` does.
+///
+/// ```
+/// # use skeinrabbit::*;
+/// let mut tables = Tables::new(Level::LATEST)?;
+/// let folder = tables.create(Thread::MAIN, Entry::ROOT, Kind::DIRECTORY)?;
+/// let file = tables.create(Thread::MAIN, folder, Kind::REGULAR)?;
+/// tables.set_no_new_privs(Thread::MAIN)?;
+/// let open = tables.ruleset().handle_fs(AccessFs::ALL).create()?;
+/// let layer = open.add_path(folder, AccessFs::ALL - AccessFs::MAKE_DIR)?.restrict(Thread::MAIN)?;
+///
+/// let rights = AccessFs::READ_DIR | AccessFs::REFER;
+/// let refused = tables.access(Thread::MAIN, Entry::ROOT, rights);
+/// assert_eq!(refused, Err(Refusal::Denied { layer, rights }));
+/// assert_eq!(refused.map_err(Errno::from), Err(Errno::EACCES));
+/// // The file may leave its folder, but none may be made at the root.
+/// let rights = AccessFs::MAKE_REG;
+/// let refused = tables.rename(Thread::MAIN, file, Entry::ROOT, None);
+/// assert_eq!(refused, Err(Refusal::Denied { layer, rights }));
+/// assert_eq!(tables.remove(Thread::MAIN, Entry::ROOT), Err(Refusal::Other(Errno::EBUSY)));
+/// # Ok::<(), Errno>(())
+/// ```
+#[derive(Clone, Copy, Debug, PartialEq, Eq, PartialOrd, Ord, Hash)]
+pub enum Refusal<R> {
+    /// EACCES: the layer denies rights that are asked for or, other than REFER, needed for the change.
+    Denied {
+        /// The layer.
+        layer: Layer,
+        /// What it denies: of a request all that was asked for, of a change what is needed at either directory.
+        rights: R,
+    },
+    /// EXDEV, between two directories: the layer denies REFER at one of them, or what is moved would gain rights.
+    Crossing {
+        /// The layer.
+        layer: Layer,
+        /// REFER where the layer denies it, otherwise what would be gained; by an exchange, by either entry.
+        rights: R,
+    },
+    /// Any other refusal, which is no layer's.
+    Other(Errno),
+}
+
+impl<R> Refusal<R> {
+    /// The number.
+    pub fn errno(&self) -> Errno {
+        match self {
+            Refusal::Denied { .. } => Errno::EACCES,
+            Refusal::Crossing { .. } => Errno::EXDEV,
+            Refusal::Other(errno) => *errno,
+        }
+    }
+
+    /// Makes a call that reports the layer (its number + 1, or 0 for none) and its rights; tells a success from a refusal.
+    pub(crate) fn answer(
+        of_bits: fn(u64) -> R,
+        call: impl FnOnce(&mut [u64]) -> u64,
+    ) -> Result<u64, Self> {
+        let mut report = [0; 2];
+        let raw = call(&mut report);
+        let [layer, bits] = report;
+        Errno::answer(raw).map_err(|errno| match (errno, Layer::from_cell(layer)) {
+            (Errno::EACCES, Some(layer)) => Refusal::Denied {
+                layer,
+                rights: of_bits(bits),
+            },
+            (Errno::EXDEV, Some(layer)) => Refusal::Crossing {
+                layer,
+                rights: of_bits(bits),
+            },
+            _ => Refusal::Other(errno),
+        })
+    }
+}
+
+impl<R> From<Errno> for Refusal<R> {
+    fn from(errno: Errno) -> Self {
+        Refusal::Other(errno)
+    }
+}
+
+impl<R> From<Refusal<R>> for Errno {
+    fn from(refusal: Refusal<R>) -> Self {
+        refusal.errno()
+    }
+}
+
+/// The error's name and, where a layer refuses, which one and which rights.
+impl<R: fmt::Display> fmt::Display for Refusal<R> {
+    fn fmt(&self, f: &mut fmt::Formatter<'_>) -> fmt::Result {
+        match self {
+            Refusal::Denied { layer, rights } => write!(f, "EACCES: layer {layer} denies {rights}"),
+            Refusal::Crossing { layer, rights } => {
+                write!(f, "EXDEV: layer {layer} refuses the move for {rights}")
+            }
+            Refusal::Other(errno) => errno.fmt(f),
+        }
+    }
+}
+
+impl<R: fmt::Debug + fmt::Display> core::error::Error for Refusal<R> {}
