@@ -38,14 +38,23 @@ pub fn climb(entries: &[u64], rules: &[u64], e: u64, asked: Rights, left: usize)
 {
     let read = (MAX_ENTRIES - left) as u64;
     if asked.is_empty() {
-        return Climbed { missing: asked, read };
+        return Climbed {
+            missing: asked,
+            read,
+        };
     }
     let missing = asked.without(own_rights(entries, rules, e));
     if e == 0 {
-        return Climbed { missing, read: read + 1 };
+        return Climbed {
+            missing,
+            read: read + 1,
+        };
     }
     if left == 0 {
-        return Climbed { missing, read: read + 1 };
+        return Climbed {
+            missing,
+            read: read + 1,
+        };
     }
     climb(entries, rules, parent_of(entries, e), missing, left - 1)
 }
@@ -73,7 +82,13 @@ pub fn layer_climb(
     ensures read { λ r. ⌜ r .read ≡ layerReads (now (entries .entry)) (layerAt (now (layers .entry)) (now (pool .entry)) l) e (asked .0) ⌝ }
 {
     let rules = layer_rules(layers, pool, l);
-    climb(entries, rules, e, asked.meet(handled_by(layer_fs(layers, l))), MAX_ENTRIES)
+    climb(
+        entries,
+        rules,
+        e,
+        asked.meet(handled_by(layer_fs(layers, l))),
+        MAX_ENTRIES,
+    )
 }
 
 // Of the rights asked for at a port, those that the layer denies.

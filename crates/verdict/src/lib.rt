@@ -53,7 +53,11 @@ fn layer_holds(entries: &[u64], layers: &[u64], pool: &[u64], q: Question, l: u6
         Question::Entry(e, asked) => {
             let climb = layer_climb(entries, layers, pool, l, e, asked);
             let denied = climb.missing;
-            Held { denied, crossed: Rights::NONE, read: climb.read }
+            Held {
+                denied,
+                crossed: Rights::NONE,
+                read: climb.read,
+            }
         }
         Question::Port(port, asked) => Held {
             denied: layer_port_missing(layers, pool, l, port, asked),
@@ -64,7 +68,11 @@ fn layer_holds(entries: &[u64], layers: &[u64], pool: &[u64], q: Question, l: u6
             let against = layer_against(entries, layers, pool, l, m);
             let denied = against.denied;
             let crossed = against.crossed;
-            Held { denied, crossed, read: 0 }
+            Held {
+                denied,
+                crossed,
+                read: 0,
+            }
         }
     }
 }
@@ -119,13 +127,19 @@ fn domain_judged(entries: &[u64], layers: &[u64], pool: &[u64], y: u64, q: Quest
     let mut n = MAX_DOMAIN;
     while n > 0 {
         if at == 0 {
-            return Judged { denial: crossed_at(k, set), read };
+            return Judged {
+                denial: crossed_at(k, set),
+                read,
+            };
         }
         let held = layer_holds(entries, layers, pool, q, at - 1);
         read = larger(read, held.read);
         let denied = held.denied;
         if !denied.is_empty() {
-            return Judged { denial: Denial::Denied(at - 1, denied), read };
+            return Judged {
+                denial: Denial::Denied(at - 1, denied),
+                read,
+            };
         }
         let crossed = held.crossed;
         set = kept_set(k, set, crossed);
@@ -133,7 +147,10 @@ fn domain_judged(entries: &[u64], layers: &[u64], pool: &[u64], y: u64, q: Quest
         at = layer_parent(layers, at - 1);
         n -= 1;
     }
-    Judged { denial: crossed_at(k, set), read }
+    Judged {
+        denial: crossed_at(k, set),
+        read,
+    }
 }
 
 // What the domain of a thread answers.

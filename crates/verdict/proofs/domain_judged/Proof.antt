@@ -46,7 +46,7 @@ domain-judged-spec =
     let some = not-true _ (c .if2 .taken) in (
       loop-hit _ _ _ (l .k) (l .set) (l .n) (l .at) (l .inv .0) (b .if1 .left) (omega arith) (h .layer-holds .ensures .0) (e .is-empty .ensures) some,
       read-all _ _ (l .read) (l .n) (l .at) (l .inv .1) (b .if1 .left) (omega arith) (h .layer-holds .ensures .1 .1) (r .larger .ensures)
-      (denied-most _ _ _ _ _ (λ z. eqb-false _ 0 (sym (e .is-empty .ensures) ∙ some) (h .layer-holds .ensures .0 ∙ z))),
+          (denied-most _ _ _ _ _ (λ z. eqb-false _ 0 (sym (e .is-empty .ensures) ∙ some) (h .layer-holds .ensures .0 ∙ z))),
     ))
     (λ c κs. tt)
     (λ c κs. tt)
