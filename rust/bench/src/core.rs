@@ -12,14 +12,16 @@ extern "C" {
         entry: u64,
         asked: u64,
     ) -> u64;
-    fn skein_measure_lacks(
+    fn skein_measure_access(
         entries: *const u64,
         entries_len: usize,
         layers: *const u64,
         layers_len: usize,
         pool: *const u64,
         pool_len: usize,
-        youngest: u64,
+        threads: *const u64,
+        threads_len: usize,
+        thread: u64,
         entry: u64,
         asked: u64,
     ) -> u64;
@@ -71,25 +73,27 @@ pub fn missing(entries: &[u64], rules: &[u64], entry: u64, asked: u64) -> u64 {
     unsafe { skein_measure_missing(entries, entries_len, rules, rules_len, entry, asked) }
 }
 
-/// Whether the domain of a youngest layer (its number + 1, or 0) denies one of the rights at an entry.
-pub fn lacks(tables: &Tables, youngest: u64, entry: u64, asked: u64) -> bool {
+/// The verdict on an access: 0 or an error number.
+pub fn access_verdict(tables: &Tables, thread: u64, entry: u64, asked: u64) -> u64 {
     let (entries, entries_len) = cells(&tables.entries);
     let (layers, layers_len) = cells(&tables.layers);
     let (pool, pool_len) = cells(&tables.pool);
-    let answer = unsafe {
-        skein_measure_lacks(
+    let (threads, threads_len) = cells(&tables.threads);
+    unsafe {
+        skein_measure_access(
             entries,
             entries_len,
             layers,
             layers_len,
             pool,
             pool_len,
-            youngest,
+            threads,
+            threads_len,
+            thread,
             entry,
             asked,
         )
-    };
-    answer != 0
+    }
 }
 
 /// The verdict on renaming an entry into a directory, with nothing replaced: 0 or an error number.

@@ -74,16 +74,17 @@ fn access(effort: Effort, name: &str, tables: &Tables) {
         &mut [
             &mut |i: u64| {
                 let (entry, asked) = requests.at(i);
-                core::lacks(tables, youngest, entry, asked).into()
+                core::access_verdict(tables, THREAD, entry, asked)
             },
             &mut |i: u64| {
                 let (entry, asked) = requests.at(i);
-                u64::from(verdict::access_verdict(tables, youngest, entry, asked).errno != 0)
+                verdict::access_verdict(tables, youngest, entry, asked).errno
             },
             &mut |i: u64| {
                 let (entry, asked) = requests.at(i);
-                let verdict = policy.access_verdict(THREAD as usize, entry as usize, asked);
-                u64::from(verdict.errno != 0)
+                policy
+                    .access_verdict(THREAD as usize, entry as usize, asked)
+                    .errno
             },
         ],
     );
