@@ -67,16 +67,16 @@ module _ (T : Tables) (e m : ℕ) where
   unfolding any layerLacks largest
   none-misses [] n h b = refl
   none-misses (l ∷ D) n h b =
-      let z : missing es (layer l) e m ≡ 0 = eqb-true (missing es (layer l) e m) 0 (not-false (eqb (missing es (layer l) e m) 0) (or-l _ (any (layerLacks es (T .layers) (T .pool) e m) D) h)) in
+      let z : missing es (layer l) e m ≡ 0 = eqb-true (missing es (layer l) e m) 0 (not-false (eqb (missing es (layer l) e m) 0) (or-l (not (eqb (missing es (layer l) e m) 0)) (any (layerLacks es (T .layers) (T .pool) e m) D) h)) in
       let g = left-more es (layer l .rules) (reads l) n e (meet m (handled (layer l))) (omega arith) (nothing-left l z) in
-      nor _ _ (ap not (eq-eqb (left l n) 0 g)) (none-misses D n (or-r _ (any (layerLacks es (T .layers) (T .pool) e m) D) h) (omega arith))
+      nor (not (eqb (left l n) 0)) (any (λ j. not (eqb (left j n) 0)) D) (ap not (eq-eqb (left l n) 0 g)) (none-misses D n (or-r (not (eqb (missing es (layer l) e m) 0)) (any (layerLacks es (T .layers) (T .pool) e m) D) h) (omega arith))
 
   some-misses : (D : List ℕ) (k : ℕ) → k < largest reads D → any (λ l. not (eqb (left l k) 0)) D ≡ true
   unfolding any largest layerReads
   some-misses [] k h = absurd (omega arith)
   some-misses (l ∷ D) k h = split (ltb k (reads l))
-      (λ q. or-left _ _ (not-of-false (eqb (left l k) 0) (first-least (λ j. eqb (left l j) 0) up k (ltb-true k (reads l) q))))
-      (λ q. let n = ltb-false k (reads l) q in or-right _ _ (some-misses D k (omega arith)))
+      (λ q. or-left (not (eqb (left l k) 0)) (any (λ j. not (eqb (left j k) 0)) D) (not-of-false (eqb (left l k) 0) (first-least (λ j. eqb (left l j) 0) up k (ltb-true k (reads l) q))))
+      (λ q. let n = ltb-false k (reads l) q in or-right (not (eqb (left l k) 0)) (any (λ j. not (eqb (left j k) 0)) D) (some-misses D k (omega arith)))
 
   most : (D : List ℕ) → largest reads D ≤ up
   unfolding largest
@@ -86,7 +86,7 @@ module _ (T : Tables) (e m : ℕ) where
   all-read : (D : List ℕ) → any (layerLacks es (T .layers) (T .pool) e m) D ≡ true → largest reads D ≡ up
   unfolding any layerLacks largest
   all-read [] h = absurd (false≢true h)
-  all-read (l ∷ D) h = either (or-cases _ (any (layerLacks es (T .layers) (T .pool) e m) D) h)
+  all-read (l ∷ D) h = either (or-cases (not (eqb (missing es (layer l) e m) 0)) (any (layerLacks es (T .layers) (T .pool) e m) D) h)
       (λ q.
       let r = reads-all es (layer l) e m (eqb-false (missing es (layer l) e m) 0 (not-true (eqb (missing es (layer l) e m) 0) q)) in
       let c = most D in
