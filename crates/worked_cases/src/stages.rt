@@ -82,7 +82,8 @@ fn show(shown: bool, answer: Reply) {
 
 // The same of an access, with how many entries' rules were read.
 fn show_access(answer: Accessed) {
-    show(true, answer.reply);
+    let reply = answer.reply;
+    show(true, reply);
     io::write_all(STDOUT_FILENO, b" read ");
     io::print_decimal(STDOUT_FILENO, answer.read);
 }
