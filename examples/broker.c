@@ -84,7 +84,7 @@ static uint64_t must(const char *what, int64_t answer)
 
 static struct answer answered(int error, const char *by)
 {
-	const struct answer answer = { { error, "" }, by, { 0, 0 } };
+	const struct answer answer = { { error, "" }, by, { 0, 0, 0 } };
 
 	return answer;
 }

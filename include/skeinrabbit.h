@@ -9,7 +9,8 @@
  * skeinrabbit_fresh answers -EIO if the tables are not sound. A number out of range counts as not live or not open.
  *
  * Requests and changes of the tree have a last argument `report`, which may be NULL. It is written with every answer: where a
- * layer refuses (EACCES, EXDEV) it says which layer and which rights, and it is zeros with every other answer.
+ * layer refuses (EACCES, EXDEV) it says which layer and which rights, and none with every other answer. skeinrabbit_access also
+ * says how many entries' rules it read.
  *
  * Any cells and any numbers are answered. A call is defined if
  * - every pointer is valid for what it points to (a whole struct skein_tables, `size` bytes), aligned for its type and not NULL.
@@ -164,15 +165,20 @@ struct skein_ruleset_attr {
  * - EACCES of a request: those of the rights asked for that the layer denies;
  * - EACCES of a change: those of the rights needed that it denies, at both directories, without REFER;
  * - EXDEV: REFER if the layer denies it at one of the directories, otherwise the rights that what is moved would gain.
- * With every other answer it is zeros.
+ * With every other answer both are zero.
+ *
+ * An access also says how many entries' rules were read. A layer reads from the entry up until none of the rights asked for that it
+ * handles is missing (no entry if it handles none of them), or all up to the root if it denies some; the number is the largest of
+ * the domain's layers. It is zero for an access that was refused for another reason, and for all other calls.
  */
 struct skein_report {
 	uint64_t layer;	 /* its number + 1 (0: none) */
 	uint64_t rights; /* SKEIN_NET_ rights for a port, else SKEIN_FS_ rights */
+	uint64_t entries_read;
 };
 
-/* Cells of a report, in the order of the struct. */
-#define SKEIN_REPORT_CELLS 2
+/* Cells of a report, in the order of the struct. Only skein_access writes the third. */
+#define SKEIN_REPORT_CELLS 3
 
 /*
  * The functions of the archive: each table as pointer and number of cells, then the arguments. The result is the success number,
@@ -234,6 +240,7 @@ static inline int64_t skeinrabbit_reported(uint64_t result, const uint64_t *cell
 	if (report != NULL) {
 		report->layer = cells[0];
 		report->rights = cells[1];
+		report->entries_read = cells[2];
 	}
 	return skeinrabbit_answer(result);
 }

@@ -142,7 +142,7 @@ static void second_layer(struct skein_tables *t, uint64_t fs, uint64_t net)
 static void denied_reports(struct skein_tables *t)
 {
 	const uint64_t all = WORKED | SKEIN_FS_EXECUTE;
-	struct skein_report r = { 9, 9 };
+	struct skein_report r = { 9, 9, 9 };
 
 	worked_tree(t, SKEIN_FS_READ_FILE);
 	expect("access", skeinrabbit_access(t, 0, 1, all, &r), -SKEIN_EACCES);
@@ -167,7 +167,7 @@ static void denied_reports(struct skein_tables *t)
 /* EXDEV names what would be gained, or REFER; other answers name nothing. */
 static void other_reports(struct skein_tables *t)
 {
-	struct skein_report r = { 9, 9 };
+	struct skein_report r = { 9, 9, 9 };
 
 	worked_tree(t, WORKED & ~SKEIN_FS_WRITE_FILE);
 	expect("rename, a right gained", skeinrabbit_rename(t, 0, 3, 2, 0, 0, &r), -SKEIN_EXDEV);
@@ -177,17 +177,38 @@ static void other_reports(struct skein_tables *t)
 	expect_report("rename, REFER denied", &r, 2, SKEIN_FS_REFER);
 	expect("rename, no entry", skeinrabbit_rename(t, 0, 9, 2, 0, 0, &r), -SKEIN_ENOENT);
 	expect_report("rename, no entry", &r, 0, 0);
+	expect("rename: entries read", (int64_t)r.entries_read, 0);
 	r.layer = r.rights = 9;
 	expect("access, granted", skeinrabbit_access(t, 0, 3, SKEIN_FS_READ_FILE, &r), 0);
 	expect_report("access, granted", &r, 0, 0);
-	r.layer = r.rights = 9;
+	r.layer = r.rights = r.entries_read = 9;
 	t->system[0] = SKEIN_MAX_LEVEL + 1;
 	expect("access, level 7", skeinrabbit_access(t, 0, 3, SKEIN_FS_READ_FILE, &r), -SKEIN_EIO);
 	expect_report("access, level 7", &r, 0, 0);
+	expect("access, level 7: entries read", (int64_t)r.entries_read, 0);
+}
+
+static void expect_read(struct skein_tables *t, uint64_t entry, uint64_t rights, int64_t answer, int64_t entries)
+{
+	struct skein_report r = { 9, 9, 9 };
+
+	expect("access", skeinrabbit_access(t, 0, entry, rights, &r), answer);
+	expect("entries read", (int64_t)r.entries_read, entries);
+}
+
+/* An access says how many entries' rules it read: from the file over /cal to the root there are three. */
+static void entries_read(struct skein_tables *t)
+{
+	worked_tree(t, SKEIN_FS_READ_FILE);
+	expect_read(t, 3, SKEIN_FS_EXECUTE, 0, 0);
+	expect_read(t, 1, SKEIN_FS_READ_FILE, 0, 1);
+	expect_read(t, 3, SKEIN_FS_READ_FILE, 0, 2);
+	expect_read(t, 3, SKEIN_FS_WRITE_FILE, -SKEIN_EACCES, 3);
+	expect_read(t, 9, SKEIN_FS_WRITE_FILE, -SKEIN_ENOENT, 0);
 }
 
 /* Of a report of so many cells, what is there after an access for writing that is denied. */
-static void expect_cells(struct skein_tables *t, size_t length, uint64_t first, uint64_t second)
+static void expect_cells(struct skein_tables *t, size_t length, uint64_t first, uint64_t second, uint64_t third)
 {
 	uint64_t cells[5] = { 7, 7, 7, 7, 7 };
 	const uint64_t result = skein_access(SKEIN_TABLE_ARGUMENTS(t), 0, 3, SKEIN_FS_WRITE_FILE, cells, length);
@@ -195,17 +216,19 @@ static void expect_cells(struct skein_tables *t, size_t length, uint64_t first, 
 	expect("access with a report of any length", skeinrabbit_answer(result), -SKEIN_EACCES);
 	expect("first cell", (int64_t)cells[0], (int64_t)first);
 	expect("second cell", (int64_t)cells[1], (int64_t)second);
-	expect("cell past the report", (int64_t)cells[2], 7);
+	expect("third cell", (int64_t)cells[2], (int64_t)third);
+	expect("cell past the report", (int64_t)cells[3], 7);
 	expect("last cell", (int64_t)cells[4], 7);
 }
 
 static void short_reports(struct skein_tables *t)
 {
 	worked_tree(t, SKEIN_FS_READ_FILE);
-	expect_cells(t, 0, 7, 7);
-	expect_cells(t, 1, 1, 7);
-	expect_cells(t, SKEIN_REPORT_CELLS, 1, SKEIN_FS_WRITE_FILE);
-	expect_cells(t, 5, 1, SKEIN_FS_WRITE_FILE);
+	expect_cells(t, 0, 7, 7, 7);
+	expect_cells(t, 1, 1, 7, 7);
+	expect_cells(t, 2, 1, SKEIN_FS_WRITE_FILE, 7);
+	expect_cells(t, SKEIN_REPORT_CELLS, 1, SKEIN_FS_WRITE_FILE, 3);
+	expect_cells(t, 5, 1, SKEIN_FS_WRITE_FILE, 3);
 }
 
 /* The limits that the header names, on fresh tables. */
@@ -251,6 +274,7 @@ int main(void)
 	denied_reports(t);
 	other_reports(t);
 	short_reports(t);
+	entries_read(t);
 	limits(t);
 	return differences == 0 ? 0 : 1;
 }

@@ -1,10 +1,12 @@
 // What C and Rust call: every call of the broker, with its arguments as numbers and its reply as one number. A call with a verdict also writes a
-// report: the layer that refused (its number + 1, or 0 for none) and what it denies; a shorter one gets the cells that it has.
+// report: the layer that refused (its number + 1, or 0 for none) and what it denies, for access also how many entries' rules were read; a
+// shorter one gets the cells that it has.
 use access::rights::Rights;
 use codes::code_of;
 use codes::number;
 use codes::replaced_by;
 use codes::report;
+use codes::report_access;
 use codes::report_denial;
 use judge::rules::cells_of;
 use tables::rows::layer_first;
@@ -22,14 +24,14 @@ ghost use Rattle.domain_restrict.specs.Restrict.{restrictCall};
 ghost use Rattle.domain.specs.Layer.{layerRead, layerPart};
 ghost use Rattle.domain.specs.Threads.{cloned, privsSet, adminSet};
 ghost use Rattle.domain_end.specs.End.{endCall};
-ghost use Rattle.fs_access.specs.Access.{accessCall};
+ghost use Rattle.fs_access.specs.Access.{accessCall, accessCount};
 ghost use Rattle.net.specs.Port.{portCall};
 ghost use Rattle.tree.specs.Create.{treeCreate, treeRemove};
 ghost use Rattle.tree.specs.Link.{treeLink};
 ghost use Rattle.tree.specs.Rename.{treeRename};
 ghost use Rattle.tree.specs.Exchange.{treeExchange};
 ghost use Rattle.codes.specs.Codes.{replacedBy};
-ghost use Rattle.capi.specs.Codes.{Answers, Tells, spanFrom};
+ghost use Rattle.capi.specs.Codes.{Answers, Tells, TellsAccess, spanFrom};
 
 fn span_from(layers: &[u64], cells: usize, l: u64, code: u64) -> usize
     ensures { λ r. ⌜ r ≡ cond (eqb code 0) (min (ruleWidth * layerFirst (now (layers .entry)) l) cells) 0 ⌝ }
@@ -255,9 +257,9 @@ pub extern "C" fn skein_access(
     rights: u64,
     report: &mut [u64],
 ) -> u64
-    ensures { λ answer. ⌜ Tells answer (after system entries rulesets layers pool threads) (now (report .entry)) (now (report .exit)) (accessCall (before system entries rulesets layers pool threads) t e rights) ⌝ }
+    ensures { λ answer. ⌜ TellsAccess answer (after system entries rulesets layers pool threads) (now (report .entry)) (now (report .exit)) (accessCall (before system entries rulesets layers pool threads) t e rights) (accessCount (before system entries rulesets layers pool threads) t e rights) ⌝ }
 {
-    let reply = broker::entries::access(
+    let accessed = broker::entries::access(
         system,
         entries,
         rulesets,
@@ -268,7 +270,8 @@ pub extern "C" fn skein_access(
         e,
         Rights(rights),
     );
-    report_denial(report, reply);
+    let reply = accessed.reply;
+    report_access(report, reply, accessed.read);
     number(reply)
 }
 

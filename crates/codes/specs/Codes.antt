@@ -43,6 +43,10 @@ said (Denied e l s) = says (e .0) (layerCell l) (s .0)
 unfoldable pub reported : List ℕ → Reply → List ℕ
 reported cells r = set (set cells 0 (said r .layer)) 1 (said r .rights)
 
+-- the report of an access: also how many entries' rules were read
+unfoldable pub reportedAccess : List ℕ → Reply → ℕ → List ℕ
+reportedAccess cells r n = set (reported cells r) 2 n
+
 -- the entry that a rename replaces, if `replaces` is not 0
 unfoldable pub replacedBy : ℕ → ℕ → Replaced
 replacedBy replaces x = cond (eqb replaces 0) None (Entry x)

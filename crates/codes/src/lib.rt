@@ -5,7 +5,7 @@ use cells::write;
 use tree::Replaced;
 ghost use mathlib.Core.Path.{_≡_};
 ghost use lib.ListN.{set};
-ghost use Rattle.codes.specs.Codes.{codeOf, number, layerCell, said, reported, replacedBy};
+ghost use Rattle.codes.specs.Codes.{codeOf, number, layerCell, said, reported, reportedAccess, replacedBy};
 
 // An error number as C reads it in a signed number; no error is 0.
 pub fn code_of(e: u64) -> u64
@@ -82,4 +82,12 @@ pub fn report_denial(cells: &mut [u64], reply: Reply)
     ensures { λ r. ⌜ now (cells .exit) ≡ reported (now (cells .entry)) reply ⌝ }
 {
     report(cells, named_layer(reply), denied_rights(reply));
+}
+
+// The report of an access: also how many entries' rules were read.
+pub fn report_access(cells: &mut [u64], reply: Reply, read: u64)
+    ensures { λ r. ⌜ now (cells .exit) ≡ reportedAccess (now (cells .entry)) reply read ⌝ }
+{
+    report_denial(cells, reply);
+    write(cells, 2, read);
 }

@@ -6,13 +6,13 @@ use tables::rows::entry_live;
 use tables::rows::past_file_set;
 use tables::rows::thread_live;
 use verdict::Question;
-use verdict::thread_denial;
+use verdict::thread_judged;
 ghost use mathlib.Core.Path.{_≡_};
 ghost use Rattle.laws.specs.Refusals.{first};
 ghost use Rattle.tables.specs.Tables.{before, after};
 ghost use Rattle.tables.specs.Outcome.{outcome, answer};
 ghost use Rattle.judge.specs.Blame.{namingEntry};
-ghost use Rattle.fs_access.specs.Access.{accessNames, accessMask, accessChecks};
+ghost use Rattle.fs_access.specs.Access.{accessNames, accessMask, accessChecks, accessReads};
 
 fn access_names(entries: &[u64], threads: &[u64], t: u64, e: u64) -> u64
     ensures { λ r. ⌜ r ≡ first (accessNames (now (entries .entry)) (now (threads .entry)) t e) ⌝ }
@@ -41,6 +41,12 @@ fn access_mask(entries: &[u64], e: u64, asked: Rights) -> u64
     0
 }
 
+// The answer to an access request, and how many entries' rules were read for it.
+pub struct Accessed {
+    pub reply: Reply,
+    pub read: u64,
+}
+
 // Whether the thread may use the entry with the rights.
 pub fn access(
     system: &[u64],
@@ -52,16 +58,28 @@ pub fn access(
     t: u64,
     e: u64,
     asked: Rights,
-) -> Reply
-    ensures { λ r. ⌜ outcome r (after system entries rulesets layers pool threads) ≡ namingEntry (before system entries rulesets layers pool threads) t e (asked .0) (answer (before system entries rulesets layers pool threads) (accessChecks (before system entries rulesets layers pool threads) t e (asked .0)) (outcome (Reply.Done 0) (before system entries rulesets layers pool threads))) ⌝ }
+) -> Accessed
+    ensures reply { λ r. ⌜ outcome (r .reply) (after system entries rulesets layers pool threads) ≡ namingEntry (before system entries rulesets layers pool threads) t e (asked .0) (answer (before system entries rulesets layers pool threads) (accessChecks (before system entries rulesets layers pool threads) t e (asked .0)) (outcome (Reply.Done 0) (before system entries rulesets layers pool threads))) ⌝ }
+    ensures read { λ r. ⌜ r .read ≡ accessReads (before system entries rulesets layers pool threads) t e (asked .0) ⌝ }
 {
     let a = access_names(entries, threads, t, e);
     if a != 0 {
-        return Reply::Refused(Errno(a));
+        return Accessed {
+            reply: Reply::Refused(Errno(a)),
+            read: 0,
+        };
     }
     let b = access_mask(entries, e, asked);
     if b != 0 {
-        return Reply::Refused(Errno(b));
+        return Accessed {
+            reply: Reply::Refused(Errno(b)),
+            read: 0,
+        };
     }
-    thread_denial(entries, layers, pool, threads, t, Question::Entry(e, asked)).reply()
+    let judged = thread_judged(entries, layers, pool, threads, t, Question::Entry(e, asked));
+    let denial = judged.denial;
+    Accessed {
+        reply: denial.reply(),
+        read: judged.read,
+    }
 }

@@ -1,7 +1,7 @@
 // What one layer holds against a move: the needs that it denies, and REFER or the rights that are not contained.
 use access::rights::Rights;
 use fs::verdict::Move;
-use judge::climb::layer_missing;
+use judge::climb::layer_climb;
 use judge::rules::layer_rules;
 use judge::rules::rights_on;
 use tables::rows::PATH_RULE;
@@ -84,8 +84,8 @@ pub fn layer_against(entries: &[u64], layers: &[u64], pool: &[u64], l: u64, m: M
     ensures crossed { λ r. ⌜ r .crossed .0 ≡ crossed (now (entries .entry)) (layerAt (now (layers .entry)) (now (pool .entry)) l) m ⌝ }
 {
     let wide = compared_rights(m);
-    let d1 = layer_missing(entries, layers, pool, l, m.source, m.leave.join(wide));
-    let d2 = layer_missing(entries, layers, pool, l, m.target, m.enter.join(wide));
+    let d1 = layer_climb(entries, layers, pool, l, m.source, m.leave.join(wide)).missing;
+    let d2 = layer_climb(entries, layers, pool, l, m.target, m.enter.join(wide)).missing;
     Against {
         denied: needs_against(m, d1, d2),
         crossed: crossed_against(layers, pool, l, m, d1, d2),

@@ -3,3 +3,4 @@ pub mod Rules
 pub mod Judge
 pub mod Domain
 pub mod Blame
+pub mod Read

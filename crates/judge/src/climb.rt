@@ -12,7 +12,10 @@ use tables::rows::parent_of;
 ghost use mathlib.Core.Path.{_≡_};
 ghost use Rattle.access.specs.Rights.{without};
 ghost use Rattle.tables.specs.Layers.{layerAt};
+ghost use Prim.Native.Nat.{_+_, _-_, _≤_};
+ghost use Rattle.access.specs.Limits.{maxEntries};
 ghost use Rattle.judge.specs.Judge.{ownRights, grants, handledBy, missing, portMissing};
+ghost use Rattle.judge.specs.Read.{readUp, layerReads};
 
 // The rights of the layer's rule on the entry's object.
 pub fn own_rights(entries: &[u64], rules: &[u64], e: u64) -> Rights
@@ -21,21 +24,39 @@ pub fn own_rights(entries: &[u64], rules: &[u64], e: u64) -> Rights
     rights_on(rules, PATH_RULE, object_of(entries, e))
 }
 
-// Of the rights asked for, those that no rule from the entry up grants, `left` climbs at most. Ends as soon as none is missing.
-pub fn missing_up(entries: &[u64], rules: &[u64], e: u64, asked: Rights, left: usize) -> Rights
-    ensures { λ r. ⌜ r .0 ≡ without (asked .0) (grants (now (entries .entry)) (now (rules .entry)) left e) ⌝ }
+// What a climb from an entry finds: the rights that no rule on the way grants, and how many entries' rules it read.
+pub struct Climbed {
+    pub missing: Rights,
+    pub read: u64,
+}
+
+// Climbs from the entry until none of the rights is missing, or to the root; `left` climbs are left.
+pub fn climb(entries: &[u64], rules: &[u64], e: u64, asked: Rights, left: usize) -> Climbed
+    requires { ⌜ left ≤ maxEntries ⌝ }
+    ensures missing { λ r. ⌜ r .missing .0 ≡ without (asked .0) (grants (now (entries .entry)) (now (rules .entry)) left e) ⌝ }
+    ensures read { λ r. ⌜ r .read ≡ maxEntries - left + readUp (now (entries .entry)) (now (rules .entry)) left e (asked .0) ⌝ }
 {
-    let rest = asked.without(own_rights(entries, rules, e));
+    let read = (MAX_ENTRIES - left) as u64;
+    if asked.is_empty() {
+        return Climbed {
+            missing: asked,
+            read,
+        };
+    }
+    let missing = asked.without(own_rights(entries, rules, e));
     if e == 0 {
-        return rest;
+        return Climbed {
+            missing,
+            read: read + 1,
+        };
     }
     if left == 0 {
-        return rest;
+        return Climbed {
+            missing,
+            read: read + 1,
+        };
     }
-    if rest.is_empty() {
-        return rest;
-    }
-    missing_up(entries, rules, parent_of(entries, e), rest, left - 1)
+    climb(entries, rules, parent_of(entries, e), missing, left - 1)
 }
 
 // The rights that a file system mask handles: REFER unasked, unless it is empty.
@@ -48,20 +69,26 @@ fn handled_by(fs: Rights) -> Rights
     fs.join(Rights::REFER)
 }
 
-// Of the rights asked for at an entry, those that the layer denies.
-pub fn layer_missing(
+// Of the rights asked for at an entry, those that the layer denies, and how many entries' rules were read for it.
+pub fn layer_climb(
     entries: &[u64],
     layers: &[u64],
     pool: &[u64],
     l: u64,
     e: u64,
     asked: Rights,
-) -> Rights
-    ensures { λ r. ⌜ r .0 ≡ missing (now (entries .entry)) (layerAt (now (layers .entry)) (now (pool .entry)) l) e (asked .0) ⌝ }
+) -> Climbed
+    ensures missing { λ r. ⌜ r .missing .0 ≡ missing (now (entries .entry)) (layerAt (now (layers .entry)) (now (pool .entry)) l) e (asked .0) ⌝ }
+    ensures read { λ r. ⌜ r .read ≡ layerReads (now (entries .entry)) (layerAt (now (layers .entry)) (now (pool .entry)) l) e (asked .0) ⌝ }
 {
-    let fs = layer_fs(layers, l);
     let rules = layer_rules(layers, pool, l);
-    missing_up(entries, rules, e, asked.meet(handled_by(fs)), MAX_ENTRIES)
+    climb(
+        entries,
+        rules,
+        e,
+        asked.meet(handled_by(layer_fs(layers, l))),
+        MAX_ENTRIES,
+    )
 }
 
 // Of the rights asked for at a port, those that the layer denies.

@@ -32,7 +32,9 @@ pub extern "C" fn skein_measure_rights_on(rules: &[u64], object: u64) -> u64
 pub extern "C" fn skein_measure_missing(entries: &[u64], rules: &[u64], e: u64, asked: u64) -> u64
     ensures { λ r. ⌜ r ≡ without asked (grants (now (entries .entry)) (now (rules .entry)) maxEntries e) ⌝ }
 {
-    judge::climb::missing_up(entries, rules, e, Rights(asked), MAX_ENTRIES).0
+    judge::climb::climb(entries, rules, e, Rights(asked), MAX_ENTRIES)
+        .missing
+        .0
 }
 
 #[no_mangle]

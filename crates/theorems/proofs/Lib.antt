@@ -15,3 +15,4 @@ pub mod Demand3
 pub mod Granted
 pub mod Ended
 pub mod Named
+pub mod Read

@@ -7,6 +7,7 @@ use Rattle.access.specs.Errno.{EACCES, EXDEV}
 use Rattle.tables.specs.Layers.{layerAt}
 use Rattle.judge.specs.Judge.{missing, portMissing}
 use Rattle.judge.specs.Domain.{domain}
+use Rattle.judge.specs.Read.{layerReads, largest}
 use Rattle.fs.specs.Move.{deniedNeeds}
 use Rattle.fs.specs.Blame.{crossed}
 use Rattle.access.specs.declared.errno.Reply.{Reply}
@@ -28,6 +29,12 @@ crossedBy es ls ps (Entry e m) l = 0
 crossedBy es ls ps (Port p m) l = 0
 crossedBy es ls ps (Move m) l = crossed es (layerAt ls ps l) m
 
+-- how many entries' rules layer l reads for a request on an entry
+unfoldable pub readBy : List ℕ → List ℕ → List ℕ → Question → ℕ → ℕ
+readBy es ls ps (Entry e m) l = layerReads es (layerAt ls ps l) e (m .0)
+readBy es ls ps (Port p m) l = 0
+readBy es ls ps (Move m) l = 0
+
 -- the first crossing that was met: its layer (the number + 1, or 0 for none) and its set
 abbrev pub keptAt : ℕ → ℕ → ℕ → ℕ
 keptAt k at b = cond (eqb k 0) (cond (eqb b 0) 0 at) k
@@ -47,6 +54,9 @@ denial a b k set (l ∷ D) = let r = denial a b (keptAt k (suc l) (b l)) (keptSe
 -- the denial by the domain of a thread
 unfoldable pub threadDenial : List ℕ → List ℕ → List ℕ → List ℕ → ℕ → Question → Denial
 threadDenial es ls ps ts t q = denial (deniedBy es ls ps q) (crossedBy es ls ps q) 0 0 (domain ls ts t)
+
+unfoldable pub threadReads : List ℕ → List ℕ → List ℕ → List ℕ → ℕ → Question → ℕ
+threadReads es ls ps ts t q = largest (readBy es ls ps q) (domain ls ts t)
 
 -- "A denied need other than REFER is EACCES; else denied REFER or failed containment is EXDEV"
 unfoldable pub refusalOf : Denial → ℕ

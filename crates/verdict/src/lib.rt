@@ -4,16 +4,17 @@ use access::errno::Reply;
 use access::limits::MAX_DOMAIN;
 use access::rights::Rights;
 use fs::verdict::Move;
-use fs_layer::Against;
 use fs_layer::layer_against;
-use judge::climb::layer_missing;
+use judge::climb::layer_climb;
 use judge::climb::layer_port_missing;
 use tables::rows::layer_parent;
 use tables::rows::youngest_of;
 ghost use mathlib.Core.Path.{_≡_};
 ghost use Rattle.access.specs.Limits.{maxDomain};
+ghost use Prim.Native.Nat.{max};
 ghost use Rattle.judge.specs.Domain.{chain};
-ghost use Rattle.verdict.specs.Denial.{deniedBy, crossedBy, keptAt, keptSet, crossedAt, denial, threadDenial, refusalOf, replyOf};
+ghost use Rattle.judge.specs.Read.{largest};
+ghost use Rattle.verdict.specs.Denial.{deniedBy, crossedBy, readBy, keptAt, keptSet, crossedAt, denial, threadDenial, threadReads, refusalOf, replyOf};
 
 // What is asked of a domain: rights at an entry, rights at a port, or a move.
 pub enum Question {
@@ -30,22 +31,56 @@ pub enum Denial {
     Crossed(u64, Rights),
 }
 
+// The denial of a question, and how many entries' rules were read for it.
+pub struct Judged {
+    pub denial: Denial,
+    pub read: u64,
+}
+
 // What a layer holds against a question.
-fn layer_holds(entries: &[u64], layers: &[u64], pool: &[u64], q: Question, l: u64) -> Against
+struct Held {
+    denied: Rights,
+    crossed: Rights,
+    read: u64,
+}
+
+fn layer_holds(entries: &[u64], layers: &[u64], pool: &[u64], q: Question, l: u64) -> Held
     ensures denied { λ r. ⌜ r .denied .0 ≡ deniedBy (now (entries .entry)) (now (layers .entry)) (now (pool .entry)) q l ⌝ }
     ensures crossed { λ r. ⌜ r .crossed .0 ≡ crossedBy (now (entries .entry)) (now (layers .entry)) (now (pool .entry)) q l ⌝ }
+    ensures read { λ r. ⌜ r .read ≡ readBy (now (entries .entry)) (now (layers .entry)) (now (pool .entry)) q l ⌝ }
 {
     match q {
-        Question::Entry(e, asked) => Against {
-            denied: layer_missing(entries, layers, pool, l, e, asked),
-            crossed: Rights::NONE,
-        },
-        Question::Port(port, asked) => Against {
+        Question::Entry(e, asked) => {
+            let climb = layer_climb(entries, layers, pool, l, e, asked);
+            let denied = climb.missing;
+            Held {
+                denied,
+                crossed: Rights::NONE,
+                read: climb.read,
+            }
+        }
+        Question::Port(port, asked) => Held {
             denied: layer_port_missing(layers, pool, l, port, asked),
             crossed: Rights::NONE,
+            read: 0,
         },
-        Question::Move(m) => layer_against(entries, layers, pool, l, m),
+        Question::Move(m) => {
+            let against = layer_against(entries, layers, pool, l, m);
+            let denied = against.denied;
+            let crossed = against.crossed;
+            Held {
+                denied,
+                crossed,
+                read: 0,
+            }
+        }
     }
+}
+
+fn larger(a: u64, b: u64) -> u64
+    ensures { λ r. ⌜ r ≡ max a b ⌝ }
+{
+    if a < b { b } else { a }
 }
 
 // The layer (its number + 1, or 0 for none) and the set of the first crossing that was met.
@@ -79,22 +114,32 @@ fn crossed_at(k: u64, set: u64) -> Denial
     Denial::Crossed(k - 1, Rights(set))
 }
 
-// The denial by the domain whose youngest layer is `y` (its number + 1, or 0).
-fn domain_denial(entries: &[u64], layers: &[u64], pool: &[u64], y: u64, q: Question) -> Denial
-    ensures { λ r. ⌜ r ≡ denial (deniedBy (now (entries .entry)) (now (layers .entry)) (now (pool .entry)) q) (crossedBy (now (entries .entry)) (now (layers .entry)) (now (pool .entry)) q) 0 0 (chain (now (layers .entry)) maxDomain y) ⌝ }
+// What the domain whose youngest layer is `y` (its number + 1, or 0) answers. A layer that denies something has read all entries up to the
+// root, and no layer reads more.
+fn domain_judged(entries: &[u64], layers: &[u64], pool: &[u64], y: u64, q: Question) -> Judged
+    ensures denial { λ r. ⌜ r .denial ≡ denial (deniedBy (now (entries .entry)) (now (layers .entry)) (now (pool .entry)) q) (crossedBy (now (entries .entry)) (now (layers .entry)) (now (pool .entry)) q) 0 0 (chain (now (layers .entry)) maxDomain y) ⌝ }
+    ensures read { λ r. ⌜ r .read ≡ largest (readBy (now (entries .entry)) (now (layers .entry)) (now (pool .entry)) q) (chain (now (layers .entry)) maxDomain y) ⌝ }
 {
     let mut k = 0;
     let mut set = 0;
+    let mut read = 0;
     let mut at = y;
     let mut n = MAX_DOMAIN;
     while n > 0 {
         if at == 0 {
-            return crossed_at(k, set);
+            return Judged {
+                denial: crossed_at(k, set),
+                read,
+            };
         }
         let held = layer_holds(entries, layers, pool, q, at - 1);
+        read = larger(read, held.read);
         let denied = held.denied;
         if !denied.is_empty() {
-            return Denial::Denied(at - 1, denied);
+            return Judged {
+                denial: Denial::Denied(at - 1, denied),
+                read,
+            };
         }
         let crossed = held.crossed;
         set = kept_set(k, set, crossed);
@@ -102,10 +147,28 @@ fn domain_denial(entries: &[u64], layers: &[u64], pool: &[u64], y: u64, q: Quest
         at = layer_parent(layers, at - 1);
         n -= 1;
     }
-    crossed_at(k, set)
+    Judged {
+        denial: crossed_at(k, set),
+        read,
+    }
 }
 
-// The denial by the domain of a thread.
+// What the domain of a thread answers.
+pub fn thread_judged(
+    entries: &[u64],
+    layers: &[u64],
+    pool: &[u64],
+    threads: &[u64],
+    t: u64,
+    q: Question,
+) -> Judged
+    ensures denial { λ r. ⌜ r .denial ≡ threadDenial (now (entries .entry)) (now (layers .entry)) (now (pool .entry)) (now (threads .entry)) t q ⌝ }
+    ensures read { λ r. ⌜ r .read ≡ threadReads (now (entries .entry)) (now (layers .entry)) (now (pool .entry)) (now (threads .entry)) t q ⌝ }
+{
+    domain_judged(entries, layers, pool, youngest_of(threads, t), q)
+}
+
+// The denial alone.
 pub fn thread_denial(
     entries: &[u64],
     layers: &[u64],
@@ -116,7 +179,7 @@ pub fn thread_denial(
 ) -> Denial
     ensures { λ r. ⌜ r ≡ threadDenial (now (entries .entry)) (now (layers .entry)) (now (pool .entry)) (now (threads .entry)) t q ⌝ }
 {
-    domain_denial(entries, layers, pool, youngest_of(threads, t), q)
+    thread_judged(entries, layers, pool, threads, t, q).denial
 }
 
 impl Denial {

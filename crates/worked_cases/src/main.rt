@@ -1,4 +1,4 @@
-// The worked cases of document 01, as requests W3, W5 and W8 amend them, each from fresh tables. The file `stdout` has the answers, written from these.
+// The worked cases of document 01, as requests W2, W3, W5 and W8 amend them, each from fresh tables. The file `stdout` has the answers, written from these.
 mod play;
 mod stages;
 

@@ -10,6 +10,7 @@ use broker_moves::rename;
 use broker_rulesets::add_path_rule;
 use broker_rulesets::create_ruleset;
 use broker_tree::create::create;
+use fs_access::Accessed;
 use libc::STDOUT_FILENO;
 use tables::rows::ENTRIES_CELLS;
 use tables::rows::LAYERS_CELLS;
@@ -77,6 +78,14 @@ fn show(shown: bool, answer: Reply) {
             io::write_all(STDOUT_FILENO, b")");
         }
     }
+}
+
+// The same of an access, with how many entries' rules were read.
+fn show_access(answer: Accessed) {
+    let reply = answer.reply;
+    show(true, reply);
+    io::write_all(STDOUT_FILENO, b" read ");
+    io::print_decimal(STDOUT_FILENO, answer.read);
 }
 
 // Two directories with a file each.
@@ -167,7 +176,7 @@ fn ask(
     y: u64,
 ) {
     match request {
-        ACCESS => show(true, access(s, e, r, l, p, t, 0, x, Rights(y))),
+        ACCESS => show_access(access(s, e, r, l, p, t, 0, x, Rights(y))),
         RENAME => show(true, rename(s, e, r, l, p, t, 0, x, y, Replaced::None)),
         LINK => show(true, link(s, e, r, l, p, t, 0, x, y)),
         _ => (),

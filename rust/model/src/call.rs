@@ -88,9 +88,6 @@ calls! {
         => model.exchange(thread, source, directory, entry);
 }
 
-/// The cells that a report has to say.
-pub const REPORTED: u64 = 2;
-
 /// What the cells of a report hold before a call.
 pub const UNWRITTEN: u64 = 0x5555_5555_5555_5555;
 
@@ -107,6 +104,14 @@ impl Call {
             | Call::Rename { report, .. }
             | Call::Exchange { report, .. } => Some(report),
             _ => None,
+        }
+    }
+
+    /// The cells that the call's report has to say.
+    pub fn reported_cells(&self) -> u64 {
+        match self {
+            Call::Access { .. } => 3,
+            _ => 2,
         }
     }
 
@@ -128,10 +133,11 @@ impl Call {
 
     /// The cells of the call's report after it, where it says these numbers: those that fit are
     /// written, and cells past them stay.
-    pub fn report_of(&self, numbers: [u64; 2]) -> Vec<u64> {
+    pub fn report_of(&self, numbers: [u64; 3]) -> Vec<u64> {
         let mut report = self.unwritten_report();
-        for (cell, number) in report.iter_mut().zip(numbers) {
-            *cell = number;
+        let said = numbers.iter().take(self.reported_cells() as usize);
+        for (cell, number) in report.iter_mut().zip(said) {
+            *cell = *number;
         }
         report
     }
@@ -166,13 +172,16 @@ impl Model {
     }
 
     /// What a call that was answered so reports: where a layer's rules stand, as their first cell in the
-    /// pool and their number of cells; or which layer refused, as its number + 1, and its set.
-    fn reported(&self, call: &Call, answer: Answer) -> [u64; 2] {
+    /// pool and their number of cells; or which layer refused, as its number + 1, and its set, and of an
+    /// access how many entries' rules were read.
+    fn reported(&self, call: &Call, answer: Answer) -> [u64; 3] {
         if let Call::LayerRules { layer, .. } = *call {
             let (place, count) = self.layer_rules(layer).unwrap_or_default();
-            return [place, count].map(|number| 3 * number as u64);
+            return [3 * place as u64, 3 * count as u64, 0];
         }
         let denial = answer.err().and_then(|refusal| self.denial(call, refusal));
-        denial.map_or([0, 0], |denial| [denial.layer as u64 + 1, denial.rights.0])
+        let (layer, rights) =
+            denial.map_or((0, 0), |denial| (denial.layer as u64 + 1, denial.rights.0));
+        [layer, rights, self.entries_read(call, answer)]
     }
 }

@@ -71,6 +71,43 @@ impl Model {
         denied.fold(Rights::NONE, Rights::join)
     }
 
+    /// Request W2: how many entries' rules an access read that was answered so, the most that a layer of
+    /// the domain needs; 0 where it was refused before the verdict.
+    pub fn entries_read(&self, call: &Call, answer: Answer) -> u64 {
+        let (
+            Call::Access {
+                thread,
+                entry,
+                rights,
+                ..
+            },
+            Ok(_) | Err(Refusal::AccessDenied),
+        ) = (call, answer)
+        else {
+            return 0;
+        };
+        let domain = self.domain(self.threads[thread].youngest).into_iter();
+        let layers = domain.map(|number| &self.layers[&number]);
+        let read = layers.map(|layer| self.entries_read_by(layer, *entry, Rights(*rights)));
+        read.max().unwrap_or(0)
+    }
+
+    /// The fewest entries, from this one up, whose rules leave nothing missing of the rights that the
+    /// layer handles; all if something is missing at the root.
+    pub fn entries_read_by(&self, layer: &Layer, entry: u64, rights: Rights) -> u64 {
+        let mut missing = rights.common(layer.handled());
+        let mut read = 0;
+        for at in self.way_up(entry) {
+            if missing.is_empty() {
+                break;
+            }
+            let object = self.entries[&at].object;
+            missing = missing.without(layer.rules.granted(Key::Object(object)));
+            read += 1;
+        }
+        read
+    }
+
     /// What fails containment in a layer: denied where the entry is, not granted by the rule on its
     /// own object, and not denied where it goes.
     pub fn failing(&self, layer: &Layer, moved: Move) -> Rights {

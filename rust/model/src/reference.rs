@@ -55,7 +55,7 @@ impl Reference {
     pub fn answer(&mut self, call: &Call) -> (Answer, Vec<u64>) {
         let answered = match &mut self.model {
             Ok(model) => model.answer(call),
-            Err(_) => (self.answer_unsound(call), call.report_of([0, 0])),
+            Err(_) => (self.answer_unsound(call), call.report_of([0; 3])),
         };
         if let Ok(model) = &self.model {
             encode_into(model, &mut self.tables);

@@ -1,6 +1,6 @@
 //! A case as a scenario file, with what the two sides answered.
 
-use crate::call::{Call, Reply, REPORTED, UNWRITTEN};
+use crate::call::{Call, Reply, UNWRITTEN};
 use crate::compare::{Case, Difference, Step};
 use crate::damage::Poke;
 use crate::reference::Reference;
@@ -28,7 +28,8 @@ pub fn scenario(case: &Case, difference: &Difference) -> String {
 fn step_lines(step: &Step, reference: &mut Reference) -> Vec<String> {
     match step {
         Step::Call(call) => {
-            let (answer, report) = reference.answer(&call.clone().with_report(REPORTED));
+            let whole = call.clone().with_report(call.reported_cells());
+            let (answer, report) = reference.answer(&whole);
             let line = call_line(call, answer, &report);
             report_line(call).into_iter().chain([line]).collect()
         }
@@ -48,7 +49,8 @@ fn step_lines(step: &Step, reference: &mut Reference) -> Vec<String> {
 
 /// Says how long a report is that a scenario can't ask for.
 fn report_line(call: &Call) -> Option<String> {
-    let length = call.report_length().filter(|length| *length != REPORTED);
+    let said = call.reported_cells();
+    let length = call.report_length().filter(|length| *length != said);
     length.map(|length| format!("# the report of this call has {length} cells"))
 }
 
@@ -99,12 +101,17 @@ fn call_line(call: &Call, answer: Answer, report: &[u64]) -> String {
 
 /// What a verdict reports, as a scenario writes it.
 fn report_words(call: &Call, report: &[u64]) -> String {
-    match (call, report) {
-        (Call::LayerRules { .. }, _) | (_, []) => String::new(),
-        (_, [0, rights, ..]) => format!(" layer=none rights={rights}"),
-        (_, [layer, rights, ..]) => format!(" layer={} rights={rights}", layer - 1),
-        (_, [_]) => unreachable!("a report of one cell"),
+    let [layer, rights, read @ ..] = report else {
+        return String::new();
+    };
+    if let Call::LayerRules { .. } = call {
+        return String::new();
     }
+    let layer = layer.checked_sub(1);
+    let layer = layer.map_or("none".to_string(), |layer| layer.to_string());
+    let read = read.iter().map(|count| format!(" entries_read={count}"));
+    let read: String = read.collect();
+    format!(" layer={layer} rights={rights}{read}")
 }
 
 /// The arguments as a scenario writes them: a rename's entry stands there or not, a report's length

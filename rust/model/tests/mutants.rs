@@ -57,7 +57,7 @@ impl Broker for OneContainment {
                     model.entries.get_mut(entry).unwrap().parent = one.parent;
                 }
                 encode_into(&model, tables);
-                return Reply::of(Ok(0), call.report_of([0, 0]));
+                return Reply::of(Ok(0), call.report_of([0; 3]));
             }
         }
         Rereading.answer(tables, call)
@@ -174,7 +174,7 @@ impl Broker for Sweeping {
                 if (self.0)(rules.granted(root), Rights(*rights)) {
                     rules.add(root, Rights(*rights));
                     encode_into(&model, tables);
-                    return Reply::of(Ok(0), call.report_of([0, 0]));
+                    return Reply::of(Ok(0), call.report_of([0; 3]));
                 }
             }
         }
@@ -234,7 +234,7 @@ impl Broker for Careless {
     fn answer(&mut self, tables: &mut Tables, call: &Call) -> Reply {
         if check(tables) == Err(Unsound::RuleTwice) {
             if let Call::Access { .. } = call {
-                return Reply::of(Ok(0), call.report_of([0, 0]));
+                return Reply::of(Ok(0), call.report_of([0; 3]));
             }
         }
         Rereading.answer(tables, call)
@@ -247,7 +247,8 @@ fn a_missing_test_of_soundness_is_found() {
     let text = scenario(&case, &difference);
     assert_eq!(case.steps.len(), 2, "{text}");
     assert!(text.lines().count() <= 26, "{text}");
-    assert!(text.contains("=> EIO layer=none rights=0\n"), "{text}");
+    let expected = "=> EIO layer=none rights=0 entries_read=0\n";
+    assert!(text.contains(expected), "{text}");
 }
 
 /// Answers EIO for tables of a sort that are sound.
@@ -257,7 +258,7 @@ impl Broker for Narrow {
     fn answer(&mut self, tables: &mut Tables, call: &Call) -> Reply {
         match check(tables) {
             Ok(model) if (self.0)(&model) && !matches!(call, Call::Fresh { .. }) => {
-                Reply::of(Err(Refusal::NotSound), call.report_of([0, 0]))
+                Reply::of(Err(Refusal::NotSound), call.report_of([0; 3]))
             }
             _ => Rereading.answer(tables, call),
         }
@@ -304,7 +305,7 @@ impl Broker for Clauseless {
     fn answer(&mut self, tables: &mut Tables, call: &Call) -> Reply {
         match call {
             Call::Access { .. } if check(tables) == Err(self.0) => {
-                Reply::of(Ok(0), call.report_of([0, 0]))
+                Reply::of(Ok(0), call.report_of([0; 3]))
             }
             _ => Rereading.answer(tables, call),
         }
@@ -562,7 +563,7 @@ impl Broker for EvenLengths {
         let all = Table::ALL.into_iter();
         let wrong = all.filter(|table| tables.of(*table).len() != table.length());
         match call {
-            Call::Access { .. } if wrong.count() == 2 => Reply::of(Ok(0), call.report_of([0, 0])),
+            Call::Access { .. } if wrong.count() == 2 => Reply::of(Ok(0), call.report_of([0; 3])),
             _ => Rereading.answer(tables, call),
         }
     }
@@ -628,7 +629,12 @@ struct WholeReport;
 impl Broker for WholeReport {
     fn answer(&mut self, tables: &mut Tables, call: &Call) -> Reply {
         let mut reply = Rereading.answer(tables, call);
-        reply.report.iter_mut().skip(2).for_each(|cell| *cell = 0);
+        let said = call.reported_cells() as usize;
+        reply
+            .report
+            .iter_mut()
+            .skip(said)
+            .for_each(|cell| *cell = 0);
         reply
     }
 }
@@ -685,7 +691,8 @@ impl Broker for Naming {
             .and_then(|model| self.wrong(&model, call));
         let mut reply = Rereading.answer(tables, call);
         if let Some(denial) = wrong {
-            reply.report = call.report_of([denial.layer as u64 + 1, denial.rights.0]);
+            let read = reply.report.get(2).copied().unwrap_or(0);
+            reply.report = call.report_of([denial.layer as u64 + 1, denial.rights.0, read]);
         }
         reply
     }
@@ -867,6 +874,164 @@ fn a_report_that_is_not_written_is_found() {
     assert_eq!(case.steps.len(), 1, "{text}");
     assert_eq!(difference.model.report, [0], "{text}");
     assert_eq!(difference.broker.report, [UNWRITTEN], "{text}");
+}
+
+/// Answers another number of entries read, given the access that was judged: the layers of the domain,
+/// the youngest first, the entry, and the rights asked for.
+struct Counting(fn(&Model, &[&Layer], u64, Rights) -> u64);
+
+impl Counting {
+    fn wrong(&self, model: &Model, call: &Call) -> Option<u64> {
+        let Call::Access {
+            thread,
+            entry,
+            rights,
+            ..
+        } = *call
+        else {
+            return None;
+        };
+        match model.clone().answer(call).0 {
+            Ok(_) | Err(Refusal::AccessDenied) => {}
+            Err(_) => return None,
+        }
+        let domain = model.domain(model.threads[&thread].youngest);
+        let layers: Vec<&Layer> = domain.iter().map(|number| &model.layers[number]).collect();
+        Some((self.0)(model, &layers, entry, Rights(rights)))
+    }
+}
+
+impl Broker for Counting {
+    fn answer(&mut self, tables: &mut Tables, call: &Call) -> Reply {
+        let wrong = check(tables)
+            .ok()
+            .and_then(|model| self.wrong(&model, call));
+        let mut reply = Rereading.answer(tables, call);
+        if let (Some(wrong), Some(cell)) = (wrong, reply.report.get_mut(2)) {
+            *cell = wrong;
+        }
+        reply
+    }
+}
+
+/// A case with so many layers in which the count alone differs.
+fn found_counting(count: fn(&Model, &[&Layer], u64, Rights) -> u64, layers: usize) {
+    let (case, difference) = found(&mut Counting(count));
+    let text = scenario(&case, &difference);
+    assert!(is_short(&case), "{text}");
+    assert_eq!(layers_of(&case).len(), layers, "{text}");
+    let [broker, model] = [&difference.broker, &difference.model];
+    assert_eq!(broker.number, model.number, "{text}");
+    assert_eq!(broker.report[..2], model.report[..2], "{text}");
+    assert_ne!(broker.report[2], model.report[2], "{text}");
+}
+
+/// The number of entries that each layer needs.
+fn counts(model: &Model, layers: &[&Layer], entry: u64, rights: Rights) -> Vec<u64> {
+    let counts = layers.iter();
+    counts
+        .map(|layer| model.entries_read_by(layer, entry, rights))
+        .collect()
+}
+
+#[test]
+fn a_climb_that_ends_with_the_first_layer_satisfied_is_found() {
+    let least = |model: &Model, layers: &[&Layer], entry, rights| {
+        let counts = counts(model, layers, entry, rights);
+        counts.into_iter().min().unwrap_or(0)
+    };
+    found_counting(least, 2);
+    let youngest = |model: &Model, layers: &[&Layer], entry, rights| {
+        let counts = counts(model, layers, entry, rights);
+        counts.first().copied().unwrap_or(0)
+    };
+    found_counting(youngest, 2);
+}
+
+/// The count that is right, and that of all entries.
+fn right_and_all(model: &Model, layers: &[&Layer], entry: u64, rights: Rights) -> (u64, u64) {
+    let counts = counts(model, layers, entry, rights);
+    let all = model.way_up(entry).len() as u64;
+    (counts.into_iter().max().unwrap_or(0), all)
+}
+
+#[test]
+fn a_root_that_is_counted_twice_is_found() {
+    let twice = |model: &Model, layers: &[&Layer], entry, rights| {
+        let (right, all) = right_and_all(model, layers, entry, rights);
+        right + u64::from(right == all)
+    };
+    found_counting(twice, 1);
+    // Without the root.
+    let never = |model: &Model, layers: &[&Layer], entry, rights| {
+        let (right, all) = right_and_all(model, layers, entry, rights);
+        right - u64::from(right == all)
+    };
+    found_counting(never, 1);
+}
+
+#[test]
+fn one_entry_in_place_of_none_is_found() {
+    let one = |model: &Model, layers: &[&Layer], entry, rights| {
+        right_and_all(model, layers, entry, rights).0.max(1)
+    };
+    found_counting(one, 0);
+    let one_with_a_layer = |model: &Model, layers: &[&Layer], entry, rights| {
+        let right = right_and_all(model, layers, entry, rights).0;
+        right.max(layers.len().min(1) as u64)
+    };
+    found_counting(one_with_a_layer, 1);
+}
+
+#[test]
+fn rules_in_place_of_entries_are_found() {
+    let rules = |model: &Model, layers: &[&Layer], entry, rights| {
+        let way = model.way_up(entry);
+        let read = right_and_all(model, layers, entry, rights).0 as usize;
+        let objects = way[..read].iter().map(|at| model.entries[at].object);
+        let keys: Vec<Key> = objects.map(Key::Object).collect();
+        let ruled = |layer: &Layer| {
+            let ruled = keys.iter().filter(|key| layer.rules.contains(**key));
+            ruled.count() as u64
+        };
+        layers.iter().map(|layer| ruled(layer)).sum()
+    };
+    found_counting(rules, 1);
+}
+
+#[test]
+fn reads_of_every_layer_added_up_are_found() {
+    let sum = |model: &Model, layers: &[&Layer], entry, rights| {
+        counts(model, layers, entry, rights).into_iter().sum()
+    };
+    found_counting(sum, 2);
+}
+
+#[test]
+fn a_climb_that_goes_on_to_the_root_is_found() {
+    let all = |model: &Model, layers: &[&Layer], entry, rights| {
+        let (right, all) = right_and_all(model, layers, entry, rights);
+        if right == 0 {
+            0
+        } else {
+            all
+        }
+    };
+    found_counting(all, 1);
+}
+
+/// Stops where nothing is missing that was asked for, handled by the layer or not.
+#[test]
+fn rights_that_are_not_handled_are_found() {
+    let unhandled = |model: &Model, layers: &[&Layer], entry, rights| {
+        let wide = |layer: &&Layer| {
+            let mut layer = Layer::clone(layer);
+            layer.masks.fs = Rights::ALL;
+            model.entries_read_by(&layer, entry, rights)
+        };
+        layers.iter().map(wide).max().unwrap_or(0)
+    };
+    found_counting(unhandled, 1);
 }
 
 /// Looks at the first bytes of an attribute alone.

@@ -1,5 +1,6 @@
-//! Request W8: the layer that a refused verdict names, and its set. The values are written down from
-//! the papers; the model and the proved core must both report them.
+//! Requests W8 and W2: the layer that a refused verdict names, and its set; how many entries' rules an
+//! access reads. The values are written down from the papers; the model and the proved core must both
+//! report them.
 
 use model::call::{Broker, Call, UNWRITTEN};
 use model::proved::Both;
@@ -130,7 +131,8 @@ fn refused(model: &Model, call: Call, errno: Errno, layer: u64, rights: u64) {
     assert_eq!(reply.number, errno.returned(), "{call:?}");
     let said = [layer + 1, rights];
     assert_eq!(reply.report[..2], said, "{call:?}");
-    assert_eq!(reply.report[2..], [UNWRITTEN; 3], "{call:?}");
+    let past = &reply.report[call.reported_cells() as usize..];
+    assert!(past.iter().all(|cell| *cell == UNWRITTEN), "{call:?}");
 }
 
 /// Any other answer reports zeros.
@@ -326,6 +328,96 @@ fn other_refusals_name_no_layer() {
         assert_eq!(reply.number, returned(EIO));
         assert_eq!(reply.report[..2], [0, 0]);
     }
+}
+
+/// How many entries' rules an access reads that is answered so.
+fn reads(model: &Model, call: Call, number: u64, count: u64) {
+    let reply = Both.answer(&mut encode(model), &call);
+    assert_eq!(reply.number, number, "{call:?}");
+    assert_eq!(reply.report[2..], [count, UNWRITTEN, UNWRITTEN], "{call:?}");
+}
+
+/// Directories 1 to 4, each in the one before, and a file 5 in the last: six entries with the root.
+fn deep() -> Model {
+    let mut model = Model::fresh(6);
+    for directory in 0..4 {
+        model.create(0, directory, DIRECTORY).unwrap();
+    }
+    model.create(0, 4, REGULAR).unwrap();
+    model.set_no_new_privs(0).unwrap();
+    model
+}
+
+#[test]
+fn the_fewest_entries_that_leave_nothing_missing() {
+    let mut model = deep();
+    reads(&model, access(5, READ | WRITE), 0, 0);
+    let rules = [(0, EXECUTE), (2, READ), (4, WRITE), (5, READ)];
+    restrict(&mut model, 0, EXECUTE | WRITE | READ, 0, &rules);
+    reads(&model, access(5, READ), 0, 1);
+    reads(&model, access(5, WRITE), 0, 2);
+    reads(&model, access(5, READ | WRITE), 0, 2);
+    reads(&model, access(5, EXECUTE), 0, 6);
+    reads(&model, access(5, READ | WRITE | EXECUTE), 0, 6);
+    reads(&model, access(4, READ), 0, 3);
+    reads(&model, access(2, READ), 0, 1);
+    reads(&model, access(0, EXECUTE), 0, 1);
+    // What the layer does not handle is not missing.
+    reads(&model, access(4, REMOVE_FILE), 0, 0);
+    reads(&model, access(4, WRITE | REMOVE_FILE), 0, 1);
+    // Refused: all, from the entry to the root.
+    let denied = EACCES.returned();
+    reads(&model, access(1, READ), denied, 2);
+    reads(&model, access(0, WRITE), denied, 1);
+    reads(&model, access(4, REFER), denied, 5);
+    reads(&model, access(4, WRITE | REFER), denied, 5);
+    // Refused before the verdict: none.
+    reads(&model, access(6, READ), ENOENT.returned(), 0);
+    reads(&model, access(5, 0), EINVAL.returned(), 0);
+    reads(&model, access(5, REFER), EINVAL.returned(), 0);
+}
+
+#[test]
+fn the_most_that_a_layer_needs() {
+    let mut model = deep();
+    restrict(&mut model, 0, WRITE | READ, 0, &[(4, READ), (3, WRITE)]);
+    restrict(&mut model, 0, READ | EXECUTE, 0, &[(5, EXECUTE), (1, READ)]);
+    restrict(&mut model, 0, 0, BIND, &[]);
+    reads(&model, access(5, WRITE), 0, 3);
+    reads(&model, access(5, EXECUTE), 0, 1);
+    reads(&model, access(5, READ), 0, 5);
+    reads(&model, access(5, READ | WRITE | EXECUTE), 0, 5);
+    reads(&model, access(5, WRITE | EXECUTE), 0, 3);
+    reads(&model, access(2, READ), EACCES.returned(), 3);
+    let mut other = deep();
+    restrict(&mut other, 0, READ, 0, &[(1, READ)]);
+    restrict(&mut other, 0, READ, 0, &[(5, READ)]);
+    reads(&other, access(5, READ), 0, 5);
+    // A layer that denies a right reads all, whatever suffices for another one.
+    restrict(&mut other, 0, WRITE, 0, &[]);
+    reads(&other, access(5, READ | WRITE), EACCES.returned(), 6);
+    reads(&other, access(5, READ), 0, 5);
+}
+
+#[test]
+fn other_calls_report_no_count() {
+    let a = with_cal(READ);
+    let calls = [
+        port(80, BIND),
+        create(2, REGULAR),
+        remove(4),
+        link(4, 2),
+        rename(4, 2, None),
+        exchange(4, 2, 4),
+    ];
+    for call in calls {
+        let reply = Both.answer(&mut encode(&a), &call);
+        assert_eq!(reply.report[2..], [UNWRITTEN; 3], "{call:?}");
+    }
+    let mut unsound = encode(&a);
+    unsound.cells[0][0] = 7;
+    let reply = Both.answer(&mut unsound, &access(3, READ));
+    assert_eq!(reply.report, [0, 0, 0, UNWRITTEN, UNWRITTEN]);
 }
 
 #[test]

@@ -4,7 +4,14 @@ use std::ffi::{OsStr, OsString};
 use std::io::IsTerminal;
 
 const COMMANDS: [&str; 3] = ["run", "explain", "demo"];
-const OPTIONS: [&str; 5] = ["--json", "--all-rights", "--color", "--help", "--version"];
+const OPTIONS: [&str; 6] = [
+    "--json",
+    "--all-rights",
+    "--verbose",
+    "--color",
+    "--help",
+    "--version",
+];
 
 /// What to do.
 #[derive(Debug, PartialEq, Eq)]
@@ -56,6 +63,7 @@ pub struct Options {
     pub command: Command,
     pub json: bool,
     pub all_rights: bool,
+    pub verbose: bool,
     pub color: Color,
 }
 
@@ -65,6 +73,7 @@ struct Words {
     plain: Vec<OsString>,
     json: bool,
     all_rights: bool,
+    verbose: bool,
     color: Option<Color>,
     asked: Option<Command>,
 }
@@ -92,6 +101,7 @@ impl Words {
         match text {
             "--json" => self.json = true,
             "--all-rights" => self.all_rights = true,
+            "-v" | "--verbose" => self.verbose = true,
             "-h" | "--help" => self.asked = Some(Command::Help),
             "-V" | "--version" => self.asked = Some(Command::Version),
             "--color" => {
@@ -116,10 +126,14 @@ impl Words {
         if self.all_rights && matches!(command, Command::Run(_)) {
             return Err("--all-rights is for explain and demo".to_owned());
         }
+        if self.verbose && matches!(command, Command::Explain(_) | Command::Demo) {
+            return Err("--verbose is for run".to_owned());
+        }
         Ok(Options {
             command,
             json: self.json,
             all_rights: self.all_rights,
+            verbose: self.verbose,
             color: self.color.unwrap_or_default(),
         })
     }
@@ -167,6 +181,7 @@ mod tests {
             command: Command::Explain("f".into()),
             json: true,
             all_rights: true,
+            verbose: false,
             color: Color::Never,
         };
         for line in [
@@ -201,10 +216,20 @@ mod tests {
             "run a --color blue",
             "run a --color=",
             "run --all-rights a",
+            "explain --verbose a",
+            "demo -v",
             "-j",
         ] {
             assert!(read(line).is_err(), "{line}");
         }
+    }
+
+    #[test]
+    fn a_run_may_be_verbose() {
+        for line in ["run f -v", "--verbose run f"] {
+            assert!(read(line).unwrap().verbose, "{line}");
+        }
+        assert!(!read("run f").unwrap().verbose);
     }
 
     #[test]

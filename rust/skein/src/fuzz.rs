@@ -43,6 +43,7 @@ impl Tried {
             let view = View {
                 json,
                 all_rights: !json,
+                verbose: true,
                 width: WIDTH,
                 paint: Paint { on: false },
             };
@@ -109,7 +110,7 @@ fn scenarios() -> Vec<Vec<u8>> {
 
 /// Words that no scenario has, and some that many have, in bytes that need not be text.
 fn odd_words() -> Vec<Vec<u8>> {
-    let words: [&[u8]; 42] = [
+    let words: [&[u8]; 45] = [
         b"\0",
         b"\r",
         b"\r\n",
@@ -128,6 +129,9 @@ fn odd_words() -> Vec<Vec<u8>> {
         b"=> ok",
         b"=> new",
         b"=> -13",
+        b"layer=0",
+        b"rights=refer",
+        b"entries_read=2",
         b"-> root",
         b"+",
         b"none",

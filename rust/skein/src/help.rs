@@ -3,7 +3,7 @@
 pub const VERSION: &str = concat!("skein ", env!("CARGO_PKG_VERSION"), "\n");
 
 pub const USAGE: &str = "\
-usage: skein run [--json] [--color WHEN] FILE
+usage: skein run [--json] [--verbose] [--color WHEN] FILE
        skein explain [--json] [--all-rights] [--color WHEN] FILE
        skein demo [--json] [--all-rights] [--color WHEN]
        skein --help | --version
@@ -33,13 +33,15 @@ Options
                 fields
   --all-rights  a column for each of the 16 rights, not only for those that
                 some layer handles
+  -v, --verbose says below each access how many entries' rules were read
   --color WHEN  always, never or auto: where output is a terminal and NO_COLOR
                 is not set (default)
   -h, --help    this text
   -V, --version the version
 
 Format (in full: docs/SCENARIO.md)
-  [repeat N] CALL ARGUMENT .. [-> NAME] [=> ANSWER [layer=N] [rights=RIGHTS]]
+  [repeat N] CALL ARGUMENT .. [-> NAME] [=> ANSWER [layer=N] [rights=RIGHTS]
+  [entries_read=N]]
   # a comment, to the end of the line
 
   repeat N makes the call N times, from 1 to 100,000, each with that answer.
@@ -48,7 +50,8 @@ Format (in full: docs/SCENARIO.md)
   (EACCES) or its negated number (-13); ok for any success, new for any that
   makes something, any for any answer at all. Without => the call must succeed.
   layer=N and rights=RIGHTS say which layer must refuse and for which rights;
-  none and none where no layer does.
+  none and none where no layer does. entries_read=N says how many entries'
+  rules an access must read.
 
   Tables start fresh at level 6. A number is decimal or hexadecimal (0x1f). An
   entry, ruleset or thread is a number or a bound name; root is entry 0, main

@@ -89,6 +89,7 @@ fn perform(options: &Options) -> Outcome {
     let view = View {
         json: options.json,
         all_rights: options.all_rights,
+        verbose: options.verbose,
         width: lines::width(&std::io::stdout()),
         paint: Paint {
             on: options.color.wanted(),
@@ -148,6 +149,7 @@ fn read(file: &OsStr) -> std::io::Result<Vec<u8>> {
 struct View {
     json: bool,
     all_rights: bool,
+    verbose: bool,
     width: usize,
     paint: Paint,
 }
@@ -158,7 +160,7 @@ impl View {
         let output = match (self.json, &play.stopped) {
             (true, Some(_)) => String::new(),
             (true, None) => format!("{}\n", transcript::json(name, &play)),
-            (false, _) => transcript::text(&play, self.width, self.paint),
+            (false, _) => transcript::text(&play, self.width, self.verbose, self.paint),
         };
         Outcome {
             output,

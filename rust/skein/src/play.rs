@@ -5,8 +5,8 @@ use crate::scenario::{
 };
 use crate::words::quoted;
 use skeinrabbit::{
-    Attribute, Cells, Entry, Errno, Layer, Level, PortRights, Refusal, Rights, Rule, Ruleset,
-    Scopes, Table, Tables, Thread,
+    Attribute, Cells, Entry, Errno, Judged, Layer, Level, PortRights, Refusal, Rights, Rule,
+    Ruleset, Scopes, Table, Tables, Thread,
 };
 
 /// Tables and names as the lines so far left them.
@@ -22,7 +22,7 @@ pub struct Played<'s> {
     pub round: u64,
     /// The answer of that round.
     pub answer: Answer,
-    /// Which layer refused in it, of a call with a verdict.
+    /// Which layer refused in it, of a call with a verdict, and what an access read.
     pub report: Option<Report>,
     /// The rules that `layer_rules` gave in it.
     pub rules: Vec<Rule>,
@@ -99,8 +99,11 @@ type Said = (Answer, Option<Report>);
 /// The answer of a call with a verdict, and which layer refused for which rights.
 fn judged<R: Default>(result: Result<Answer, Refusal<R>>, mask: fn(R) -> Mask) -> Said {
     let named = |layer, rights: R| {
-        let rights = mask(rights);
-        Some(Report { layer, rights })
+        Some(Report {
+            layer,
+            rights: mask(rights),
+            entries_read: None,
+        })
     };
     match result {
         Ok(answer) => (answer, named(None, R::default())),
@@ -117,7 +120,18 @@ fn judged<R: Default>(result: Result<Answer, Refusal<R>>, mask: fn(R) -> Mask) -
     }
 }
 
-/// The answer of an access, or of a change that makes nothing.
+/// The answer of an access, and how many entries' rules it read.
+fn accessed(judged: Judged) -> Said {
+    let (answer, report) = changed(judged.answer);
+    let entries_read = Some(judged.entries_read);
+    let report = report.map(|report| Report {
+        entries_read,
+        ..report
+    });
+    (answer, report)
+}
+
+/// The answer of a call on entries that makes nothing.
 fn changed(result: Result<(), Refusal<Rights>>) -> Said {
     judged(result.map(|()| Answer::Done), Mask::Files)
 }
@@ -233,7 +247,7 @@ impl Player {
             ThreadCall::SetAdmin { on } => done(self.tables.set_admin(thread, *on)),
             ThreadCall::Access { entry, rights } => {
                 let entry = self.entry(entry)?;
-                return Ok(changed(self.tables.access(thread, entry, *rights)));
+                return Ok(accessed(self.tables.judge(thread, entry, *rights)));
             }
             ThreadCall::Port { port, rights } => {
                 let answer = self.tables.port(thread, *port, *rights);

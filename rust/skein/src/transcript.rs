@@ -7,9 +7,12 @@ use crate::scenario::{Answer, Call, Mask, Report, RulesetCall, Space};
 use crate::words::shown;
 use skeinrabbit::{Errno, Layer, Rights, Rule};
 
-/// All calls, and how many answers differ.
-pub fn text(play: &Play, width: usize, paint: Paint) -> String {
-    let layout = Layout::of(&play.played, width);
+/// All calls, and how many answers differ; with more words, what each access read.
+pub fn text(play: &Play, width: usize, verbose: bool, paint: Paint) -> String {
+    let layout = Layout {
+        verbose,
+        ..Layout::of(&play.played, width)
+    };
     let mut out = String::new();
     for played in &play.played {
         out.push_str(&layout.line(played, paint));
@@ -107,6 +110,8 @@ const WIDEST_ANSWER: usize = 24;
 /// The columns.
 pub struct Layout {
     width: usize,
+    /// Whether to say what each access read.
+    verbose: bool,
     /// The widest word that fits in a line that goes on.
     room: usize,
     line: usize,
@@ -137,6 +142,7 @@ impl Layout {
         let verdict = answer + answers + gap;
         Layout {
             width,
+            verbose: false,
             room,
             line,
             text,
@@ -162,13 +168,21 @@ impl Layout {
             row.cell(self.verdict, "ok", |text| paint.granted(text));
         }
         let mut out = row.end();
-        for line in below(played) {
+        let read = entries_read(played).filter(|_| self.verbose);
+        for line in below(played).into_iter().chain(read) {
             let mut row = Row::new(indent + INDENT, self.width);
             row.fill(indent, &line);
             out.push_str(&row.end());
         }
         out
     }
+}
+
+/// How many entries' rules an access read, in words.
+fn entries_read(played: &Played) -> Option<String> {
+    let read = played.report?.entries_read?;
+    let noun = if read == 1 { "entry" } else { "entries" };
+    Some(format!("rules of {read} {noun} read"))
 }
 
 /// What stands below a call: why it was refused, if that differs or a layer did it, and the rules of a layer.
@@ -229,6 +243,7 @@ pub fn call_json(played: &Played) -> Json {
         Answer::Refused(errno) => (None, Some(errno)),
     };
     let (layer, rights) = named(played).unzip();
+    let entries_read = played.report.and_then(|report| report.entries_read);
     let made = match (played.answer, &statement.binds) {
         (Answer::New(_), Some((space, name))) => Some((*space, name.as_str())),
         _ => None,
@@ -250,6 +265,7 @@ pub fn call_json(played: &Played) -> Json {
             Json::option(layer, |layer| Json::Number(layer.number())),
         ),
         ("rights", rights.map_or(Json::List(Vec::new()), mask_json)),
+        ("entries_read", Json::option(entries_read, Json::Number)),
         ("bound", Json::option(made, bound_json)),
         (
             "expected",
@@ -264,7 +280,7 @@ pub fn call_json(played: &Played) -> Json {
 
 /// The layer that refused, and for which rights.
 fn named(played: &Played) -> Option<(Layer, Mask)> {
-    let Report { layer, rights } = played.report?;
+    let Report { layer, rights, .. } = played.report?;
     Some((layer?, rights))
 }
 

@@ -413,6 +413,47 @@ clone 9 => ESRCH
 }
 
 #[test]
+fn an_access_says_how_many_entries_were_read() {
+    let text = format!(
+        "{LAYERED}\
+access main page 4 => 0 entries_read=2
+access main drafts 2 => 0
+access main page 2 => EACCES entries_read=3
+access main page execute => 0 entries_read=0
+access main 9 4 => ENOENT entries_read=0
+port main 80 2 => 0
+"
+    );
+    let quiet = skein_with(&["run", "-"], text.as_bytes());
+    assert_eq!(quiet.code, 0, "{}", quiet.out);
+    assert!(!quiet.out.contains(" read\n"), "{}", quiet.out);
+    let ran = skein_with(&["run", "--verbose", "-"], text.as_bytes());
+    let lines = ran.out.lines().map(str::trim);
+    let shown: Vec<&str> = lines.filter(|line| line.ends_with(" read")).collect();
+    let of = [
+        "2 entries",
+        "1 entry",
+        "3 entries",
+        "0 entries",
+        "0 entries",
+    ];
+    assert_eq!(shown, of.map(|count| format!("rules of {count} read")));
+    let document = json(&skein_with(&["run", "--json", "-"], text.as_bytes()).out);
+    let calls = document.at("calls").list();
+    let read = calls.iter().map(|call| call.at("entries_read"));
+    let counted = read.filter(|count| **count != Value::Null);
+    assert_eq!(
+        counted.map(Value::number).collect::<Vec<_>>(),
+        [2, 1, 3, 0, 0]
+    );
+    let wrong = text.replace("entries_read=2", "entries_read=3");
+    let ran = skein_with(&["run", "-"], wrong.as_bytes());
+    assert_eq!(ran.code, 1);
+    let expected = "DIFFERS: expected 0 entries_read=3";
+    assert!(ran.out.contains(expected), "{}", ran.out);
+}
+
+#[test]
 fn json_escapes_the_name_of_the_file() {
     let file = Scratch::new("a \"b\"\\\n\u{1}é.skein", b"clone main\n");
     let ran = skein(&["run", "--json", file.path()]);

@@ -5,7 +5,7 @@
 //!
 //! Calls that say more than their number write a report, of any length: the cells that fit are written, with every answer, and
 //! cells past them stay. The report of a request or of a change of the tree is the layer that refuses (its number + 1, or 0 for
-//! none) and its rights.
+//! none) and its rights; behind these an access reports how many entries' rules it read.
 #![no_std]
 
 pub mod layout;

@@ -60,6 +60,8 @@ fn reports_have_any_length() {
     let mut report = [7; 5];
     assert_eq!(port(FRESH, 0, 80, 1, &mut report), 0);
     assert_eq!(report, [0, 0, 7, 7, 7]);
+    assert_eq!(access(FRESH, 0, 0, 8, &mut report[1..]), 0);
+    assert_eq!(report, [0, 0, 0, 0, 7]);
 }
 
 #[test]

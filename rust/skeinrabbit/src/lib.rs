@@ -133,7 +133,7 @@ pub use errno::Errno;
 pub use kind::Kind;
 pub use level::Level;
 pub use numbers::{Entry, Layer, Ruleset, Thread};
-pub use refusal::Refusal;
+pub use refusal::{Judged, Refusal};
 pub use rights::{AccessFs, AccessNet, PortRights, Rights, Scope, Scopes};
 pub use rows::{Attribute, EntryRow, LayerRow, RulesetRow, ThreadRow};
 pub use rules::{Rule, Rules, RulesIter};

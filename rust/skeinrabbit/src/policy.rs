@@ -1,7 +1,7 @@
 //! The calls that leave the tree alone: rulesets, threads and requests.
 use crate::errno::Errno;
 use crate::numbers::{Entry, Layer, Ruleset, Thread};
-use crate::refusal::Refusal;
+use crate::refusal::{Judged, Refusal};
 use crate::rights::{AccessFs, AccessNet};
 use crate::rules::Rules;
 use crate::tables::Tables;
@@ -270,11 +270,38 @@ impl Tables {
         entry: Entry,
         rights: AccessFs,
     ) -> Result<(), Refusal<AccessFs>> {
+        self.judge(thread, entry, rights).answer
+    }
+
+    /// As [`Tables::access`], and how many entries' rules were read for it.
+    ///
+    /// ```
+    /// # use skeinrabbit::*;
+    /// let mut tables = Tables::new(Level::LATEST)?;
+    /// let folder = tables.create(Thread::MAIN, Entry::ROOT, Kind::DIRECTORY)?;
+    /// let file = tables.create(Thread::MAIN, folder, Kind::REGULAR)?;
+    /// tables.set_no_new_privs(Thread::MAIN)?;
+    /// tables
+    ///     .ruleset()
+    ///     .handle_fs(AccessFs::READ_FILE | AccessFs::WRITE_FILE)
+    ///     .create()?
+    ///     .add_path(folder, AccessFs::READ_FILE)?
+    ///     .restrict(Thread::MAIN)?;
+    /// let read = |rights| tables.judge(Thread::MAIN, file, rights).entries_read;
+    /// assert_eq!(read(AccessFs::EXECUTE), 0); // no layer handles it
+    /// assert_eq!(read(AccessFs::READ_FILE), 2); // the file, and the folder, whose rule grants it
+    /// assert_eq!(read(AccessFs::WRITE_FILE), 3); // denied: all, to the root
+    /// # Ok::<(), Errno>(())
+    /// ```
+    pub fn judge(&self, thread: Thread, entry: Entry, rights: AccessFs) -> Judged {
         let (thread, entry) = (thread.number(), entry.number());
-        let answer = Refusal::answer(AccessFs::from_bits, |report| {
+        let (answer, entries_read) = Refusal::reported(AccessFs::from_bits, |report| {
             sys::access(self.shared(), thread, entry, rights.bits(), report)
         });
-        answer.map(drop)
+        Judged {
+            answer: answer.map(drop),
+            entries_read,
+        }
     }
 
     /// Whether a thread may use a port with all of these rights.

@@ -1,6 +1,7 @@
 //! Why a request or a change of the tree is refused.
 use crate::errno::Errno;
 use crate::numbers::Layer;
+use crate::rights::AccessFs;
 use core::fmt;
 
 /// The refusal of a request or of a change of the tree.
@@ -59,15 +60,24 @@ impl<R> Refusal<R> {
         }
     }
 
-    /// Makes a call that reports the layer (its number + 1, or 0 for none) and its rights; tells a success from a refusal.
+    /// Makes a call that reports the layer and its rights; tells a success from a refusal.
     pub(crate) fn answer(
         of_bits: fn(u64) -> R,
         call: impl FnOnce(&mut [u64]) -> u64,
     ) -> Result<u64, Self> {
-        let mut report = [0; 2];
+        Self::reported(of_bits, call).0
+    }
+
+    /// Makes a call that reports the layer (its number + 1, or 0 for none), its rights and, if it is an access, how many entries'
+    /// rules were read; answers the latter too.
+    pub(crate) fn reported(
+        of_bits: fn(u64) -> R,
+        call: impl FnOnce(&mut [u64]) -> u64,
+    ) -> (Result<u64, Self>, u64) {
+        let mut report = [0; 3];
         let raw = call(&mut report);
-        let [layer, bits] = report;
-        Errno::answer(raw).map_err(|errno| match (errno, Layer::from_cell(layer)) {
+        let [layer, bits, entries_read] = report;
+        let answer = Errno::answer(raw).map_err(|errno| match (errno, Layer::from_cell(layer)) {
             (Errno::EACCES, Some(layer)) => Refusal::Denied {
                 layer,
                 rights: of_bits(bits),
@@ -77,8 +87,21 @@ impl<R> Refusal<R> {
                 rights: of_bits(bits),
             },
             _ => Refusal::Other(errno),
-        })
+        });
+        (answer, entries_read)
     }
+}
+
+/// What an access answers, and what it took.
+#[derive(Clone, Copy, Debug, PartialEq, Eq)]
+#[must_use]
+pub struct Judged {
+    /// Whether all of the rights are granted.
+    pub answer: Result<(), Refusal<AccessFs>>,
+    /// How many entries' rules were read. A layer reads from the entry up until none of the rights asked for that it handles is
+    /// missing, no entry where it handles none of them, and all up to the root where it denies some. The number is that of the
+    /// layer that reads most; 0 where the access was refused for another reason.
+    pub entries_read: u64,
 }
 
 impl<R> From<Errno> for Refusal<R> {

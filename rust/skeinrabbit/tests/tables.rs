@@ -509,3 +509,30 @@ fn refusals_read_as_words() {
         ("ENOENT".to_owned(), Errno::ENOENT)
     );
 }
+
+#[test]
+fn an_access_says_how_many_entries_were_read() {
+    let (tables, [one, _, first, _]) = two_layers();
+    let main = Thread::MAIN;
+    let read = |entry, rights| tables.judge(main, entry, rights).entries_read;
+    assert_eq!(read(first, AccessFs::EXECUTE), 0);
+    assert_eq!(read(one, AccessFs::READ_DIR), 0);
+    assert_eq!(read(first, AccessFs::WRITE_FILE), 3);
+    assert_eq!(read(one, AccessFs::REFER), 2);
+    assert_eq!(read(Entry::ROOT, AccessFs::REFER), 1);
+    for (thread, entry, rights, errno) in [
+        (Thread::new(7), first, AccessFs::WRITE_FILE, Errno::ESRCH),
+        (main, Entry::new(9), AccessFs::WRITE_FILE, Errno::ENOENT),
+        (main, first, AccessFs::NONE, Errno::EINVAL),
+    ] {
+        let judged = Judged {
+            answer: Err(Refusal::Other(errno)),
+            entries_read: 0,
+        };
+        assert_eq!(tables.judge(thread, entry, rights), judged);
+    }
+    let damaged = Tables::from_cells(Cells::zeroed());
+    let judged = damaged.judge(main, Entry::ROOT, AccessFs::READ_DIR);
+    assert_eq!(judged.answer, Err(Refusal::Other(Errno::EIO)));
+    assert_eq!(judged.entries_read, 0);
+}

@@ -1,5 +1,6 @@
 //! Whole calls over the cells, each with a soundness test in front. Answers are as the core's: the success number, or 2^64
-//! minus an error number. Requests and changes of the tree report which layer refuses, with which rights.
+//! minus an error number. Requests and changes of the tree report which layer refuses, with which rights, and an access how many
+//! entries' rules it read.
 
 use super::verdict::{access_verdict, rename_verdict, Verdict};
 use crate::landlock::{
@@ -15,8 +16,8 @@ pub struct Broker {
     pub is_sound: fn(&Tables) -> bool,
 }
 
-/// The layer that refuses (its number + 1, or 0 for none) and its rights.
-pub type Report = [u64; 2];
+/// The layer that refuses (its number + 1, or 0 for none), its rights and, of an access, how many entries' rules were read.
+pub type Report = [u64; 3];
 
 type Answer = Result<u64, Verdict>;
 
@@ -42,7 +43,8 @@ fn number(answer: Answer) -> u64 {
 }
 
 fn reported(answer: Answer, report: &mut Report) -> u64 {
-    *report = answer.map_or_else(|verdict| [verdict.layer, verdict.rights], |_| [0; 2]);
+    let (layer, rights) = answer.map_or_else(|verdict| (verdict.layer, verdict.rights), |_| (0, 0));
+    report[..2].copy_from_slice(&[layer, rights]);
     number(answer)
 }
 
@@ -55,7 +57,10 @@ impl Broker {
         (entry, asked): (u64, u64),
         report: &mut Report,
     ) -> u64 {
-        reported(self.accessed(tables, thread, entry, asked), report)
+        let answer = self.accessed(tables, thread, entry, asked);
+        let (Ok(verdict) | Err(verdict)) = answer;
+        *report = [verdict.layer, verdict.rights, verdict.entries_read];
+        number(answer.map(|_| 0))
     }
 
     /// Creates an entry of a kind in a directory; answers its number.
@@ -101,15 +106,22 @@ impl Broker {
         refuse(!tables.is_thread(thread), ESRCH)
     }
 
-    fn accessed(self, tables: &Tables, thread: u64, entry: u64, asked: u64) -> Answer {
+    fn accessed(
+        self,
+        tables: &Tables,
+        thread: u64,
+        entry: u64,
+        asked: u64,
+    ) -> Result<Verdict, Verdict> {
         self.begin(tables, thread)?;
         let kind = tables.kind(entry);
         refuse(kind == 0, ENOENT)?;
         refuse(asked == 0 || asked & !ALL_FS != 0, EINVAL)?;
         refuse(asked & !held_rights(kind) != 0, EINVAL)?;
         let youngest = tables.youngest(thread);
-        granted(access_verdict(tables, youngest, entry, asked))?;
-        Ok(0)
+        let verdict = access_verdict(tables, youngest, entry, asked);
+        granted(verdict)?;
+        Ok(verdict)
     }
 
     fn created(self, tables: &mut Tables, thread: u64, directory: u64, kind: u64) -> Answer {

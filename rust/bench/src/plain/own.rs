@@ -1,7 +1,7 @@
 //! Verdicts over structures of its own, made from the cells once.
 
-use super::verdict::{joined, Move, Verdict};
-use crate::landlock::{handled, EACCES, PATH_RULE};
+use super::verdict::{granted_by_all, joined, Move, Verdict};
+use crate::landlock::{handled, PATH_RULE};
 use crate::tables::Tables;
 use skeinrabbit_sys::layout::{ENTRY_WIDTH, LAYER_WIDTH, RULE_WIDTH, THREAD_WIDTH};
 use std::collections::HashMap;
@@ -50,27 +50,30 @@ impl Policy {
     }
 
     /// Of the rights asked for at an entry, those that the layer denies.
-    fn denied(&self, layer: &Layer, mut entry: usize, asked: u64) -> u64 {
+    fn denied(&self, layer: &Layer, entry: usize, asked: u64) -> u64 {
+        self.climb(layer, entry, asked).0
+    }
+
+    /// The rights that the layer denies, and how many entries' rules were read until none was missing or the root was reached.
+    fn climb(&self, layer: &Layer, mut entry: usize, asked: u64) -> (u64, u64) {
         let mut missing = asked & layer.handled;
-        loop {
+        let mut read = 0;
+        while missing != 0 {
             let Entry { parent, object, .. } = self.entries[entry];
             missing &= !layer.rights_on(object);
-            if entry == 0 || missing == 0 {
-                return missing;
+            read += 1;
+            if entry == 0 {
+                break;
             }
             entry = parent;
         }
+        (missing, read)
     }
 
     /// The verdict on rights at an entry.
     pub fn access_verdict(&self, thread: usize, entry: usize, asked: u64) -> Verdict {
-        let mut verdicts = self.domain(thread).map(|(number, layer)| Verdict {
-            errno: EACCES,
-            layer: number,
-            rights: self.denied(layer, entry, asked),
-        });
-        let refused = verdicts.find(|verdict| verdict.rights != 0);
-        refused.unwrap_or_default()
+        let layers = self.domain(thread);
+        granted_by_all(layers.map(|(number, layer)| (number, self.climb(layer, entry, asked))))
     }
 
     /// The verdict on renaming an entry into a directory, with nothing replaced.

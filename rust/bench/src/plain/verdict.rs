@@ -17,23 +17,33 @@ pub fn rights_on(rules: &[u64], object: u64) -> u64 {
 }
 
 /// Of the rights asked for, those that no rule from the entry up to the root grants.
-pub fn missing(entries: &[u64], rules: &[u64], mut entry: u64, mut asked: u64) -> u64 {
-    loop {
+pub fn missing(entries: &[u64], rules: &[u64], entry: u64, asked: u64) -> u64 {
+    climb(entries, rules, entry, asked).0
+}
+
+/// The rights that are missing, and how many entries' rules were read until none was or the root was reached.
+fn climb(entries: &[u64], rules: &[u64], mut entry: u64, mut asked: u64) -> (u64, u64) {
+    let mut read = 0;
+    while asked != 0 {
         let row = ENTRY_WIDTH * entry as usize;
         asked &= !rights_on(rules, entries[row + 2]);
-        if entry == 0 || asked == 0 {
-            return asked;
+        read += 1;
+        if entry == 0 {
+            break;
         }
         entry = entries[row + 1];
     }
+    (asked, read)
 }
 
-/// What is answered about rights: 0 or an error number, and which layer refuses (its number + 1) with which rights.
+/// What is answered about rights: 0 or an error number, which layer refuses (its number + 1) with which rights, and of an access how
+/// many entries' rules were read.
 #[derive(Clone, Copy, Debug, Default, PartialEq, Eq)]
 pub struct Verdict {
     pub errno: u64,
     pub layer: u64,
     pub rights: u64,
+    pub entries_read: u64,
 }
 
 impl Verdict {
@@ -80,13 +90,31 @@ fn domain(tables: &Tables, youngest: u64) -> impl Iterator<Item = Layer<'_>> {
 
 /// The verdict on rights at an entry.
 pub fn access_verdict(tables: &Tables, youngest: u64, entry: u64, asked: u64) -> Verdict {
-    let mut verdicts = domain(tables, youngest).map(|layer| Verdict {
-        errno: EACCES,
-        layer: layer.number,
-        rights: layer.denied(&tables.entries, entry, asked),
-    });
-    let refused = verdicts.find(|verdict| verdict.rights != 0);
-    refused.unwrap_or_default()
+    granted_by_all(domain(tables, youngest).map(|layer| {
+        let asked = asked & layer.handled;
+        (
+            layer.number,
+            climb(&tables.entries, layer.rules, entry, asked),
+        )
+    }))
+}
+
+/// The verdict on rights of which layers, the youngest first, miss some and have read so many entries. One that misses some has read
+/// all.
+pub fn granted_by_all(layers: impl Iterator<Item = (u64, (u64, u64))>) -> Verdict {
+    let mut verdict = Verdict::default();
+    for (layer, (rights, read)) in layers {
+        verdict.entries_read = verdict.entries_read.max(read);
+        if rights != 0 {
+            return Verdict {
+                errno: EACCES,
+                layer,
+                rights,
+                ..verdict
+            };
+        }
+    }
+    verdict
 }
 
 /// A move of an entry to a directory, with nothing replaced.
@@ -158,9 +186,9 @@ impl Move {
             return Verdict::default();
         }
         Verdict {
-            errno,
             layer,
             rights,
+            ..Verdict::refused(errno)
         }
     }
 }

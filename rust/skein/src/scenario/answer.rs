@@ -33,13 +33,12 @@ pub struct Expected {
 }
 
 impl Expected {
-    /// Reads the words after `=>`, of a call that is refused for rights of a sort or for none.
+    /// Reads the words after `=>`, of a call with a report of a sort or with none.
     pub fn parse(words: &[&str], sort: Option<Sort>) -> Result<Expected, Bad> {
         let (answer, more) = ExpectedAnswer::parse(words)?;
         let report = ReportWords::parse(more, sort)?;
         if answer == ExpectedAnswer::Any && !report.is_empty() {
-            let found = "`layer=` or `rights=` after `any`";
-            return Err(Bad::new(found, "`any` alone"));
+            return Err(Bad::new(format!("`any{report}`"), "`any` alone"));
         }
         Ok(Expected { answer, report })
     }

@@ -15,8 +15,8 @@ pub struct Form {
     usage: &'static str,
     /// What a success makes, and so what its name stands for.
     pub makes: Option<Space>,
-    /// The sort of rights that a layer may refuse it for.
-    pub refused_for: Option<Sort>,
+    /// What it reports beside its answer, if it has a verdict.
+    pub reports: Option<Sort>,
     read: Read,
 }
 
@@ -26,7 +26,7 @@ const fn form(usage: &'static str, makes: Option<Space>, read: Read) -> Form {
     Form {
         usage,
         makes,
-        refused_for: None,
+        reports: None,
         read,
     }
 }
@@ -34,7 +34,7 @@ const fn form(usage: &'static str, makes: Option<Space>, read: Read) -> Form {
 /// A call with a verdict.
 const fn judged(usage: &'static str, makes: Option<Space>, sort: Sort, read: Read) -> Form {
     Form {
-        refused_for: Some(sort),
+        reports: Some(sort),
         ..form(usage, makes, read)
     }
 }
@@ -63,31 +63,31 @@ static FORMS: [Form; 19] = [
     form("end THREAD", None, end),
     form("set_no_new_privs THREAD", None, set_no_new_privs),
     form("set_admin THREAD ON", None, set_admin),
-    judged("access THREAD ENTRY RIGHTS", None, Sort::Files, access),
-    judged("port THREAD PORT RIGHTS", None, Sort::Ports, port),
+    judged("access THREAD ENTRY RIGHTS", None, Sort::Access, access),
+    judged("port THREAD PORT RIGHTS", None, Sort::Port, port),
     judged(
         "create THREAD DIRECTORY KIND",
         Some(Space::Entry),
-        Sort::Files,
+        Sort::Change,
         create,
     ),
-    judged("remove THREAD ENTRY", None, Sort::Files, remove),
+    judged("remove THREAD ENTRY", None, Sort::Change, remove),
     judged(
         "link THREAD SOURCE DIRECTORY",
         Some(Space::Entry),
-        Sort::Files,
+        Sort::Change,
         link,
     ),
     judged(
         "rename THREAD SOURCE DIRECTORY [ENTRY]",
         None,
-        Sort::Files,
+        Sort::Change,
         rename,
     ),
     judged(
         "exchange THREAD SOURCE DIRECTORY ENTRY",
         None,
-        Sort::Files,
+        Sort::Change,
         exchange,
     ),
     form("poke TABLE CELL VALUE [COUNT STEP RISE]", None, poke),

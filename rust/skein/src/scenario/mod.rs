@@ -154,7 +154,7 @@ impl Reader {
         if rounds.is_some() && binds.is_some() {
             return Err(Bad::word("->", "no name for a call that is repeated"));
         }
-        let expected = answer.map(|words| Expected::parse(words, form.refused_for));
+        let expected = answer.map(|words| Expected::parse(words, form.reports));
         let expected = expected.transpose()?;
         self.statements.push(Statement {
             line,

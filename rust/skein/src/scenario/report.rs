@@ -9,6 +9,8 @@ use std::fmt;
 pub struct Report {
     pub layer: Option<Layer>,
     pub rights: Mask,
+    /// How many entries' rules an access read.
+    pub entries_read: Option<u64>,
 }
 
 /// Rights of one sort or the other.
@@ -27,18 +29,29 @@ impl fmt::Display for Mask {
     }
 }
 
-/// The sort of rights that a call is refused for.
-#[derive(Clone, Copy)]
+/// The sort of a report: the rights that a call is refused for, and whether it counts entries.
+#[derive(Clone, Copy, PartialEq, Eq)]
 pub enum Sort {
-    Files,
-    Ports,
+    Access,
+    Port,
+    Change,
 }
 
 impl Sort {
     fn mask(self, word: &str) -> Result<Mask, Bad> {
         match self {
-            Sort::Files => value(word).map(Mask::Files),
-            Sort::Ports => value(word).map(Mask::Ports),
+            Sort::Access | Sort::Change => value(word).map(Mask::Files),
+            Sort::Port => value(word).map(Mask::Ports),
+        }
+    }
+
+    /// What may stand after an answer.
+    fn expected(self) -> &'static str {
+        match self {
+            Sort::Access => {
+                "layer=, rights=, entries_read= or the end of the line after the answer"
+            }
+            _ => "layer=, rights= or the end of the line after the answer",
         }
     }
 }
@@ -49,6 +62,7 @@ pub struct ReportWords {
     /// The layer, or that there is none.
     layer: Option<Option<Layer>>,
     rights: Option<Mask>,
+    entries_read: Option<u64>,
 }
 
 impl ReportWords {
@@ -68,10 +82,11 @@ impl ReportWords {
         let again = match word.split_once('=') {
             Some(("layer", text)) => self.layer.replace(layer(text)?).is_some(),
             Some(("rights", text)) => self.rights.replace(sort.mask(text)?).is_some(),
-            _ => {
-                let expected = "layer=, rights= or the end of the line after the answer";
-                return Err(Bad::word(word, expected));
+            Some(("entries_read", text)) if sort == Sort::Access => {
+                let count = number(text, "how many entries")?;
+                self.entries_read.replace(count).is_some()
             }
+            _ => return Err(Bad::word(word, sort.expected())),
         };
         if again {
             return Err(Bad::word(word, "it once"));
@@ -88,7 +103,8 @@ impl ReportWords {
     pub fn is_met_by(self, report: Option<Report>) -> bool {
         let layer = self.layer.is_none() || self.layer == report.map(|report| report.layer);
         let rights = self.rights.is_none() || self.rights == report.map(|report| report.rights);
-        layer && rights
+        let read = report.and_then(|report| report.entries_read);
+        layer && rights && (self.entries_read.is_none() || self.entries_read == read)
     }
 }
 
@@ -108,8 +124,11 @@ impl fmt::Display for ReportWords {
             Some(None) => f.write_str(" layer=none")?,
             None => {}
         }
-        match self.rights {
-            Some(rights) => write!(f, " rights={rights}"),
+        if let Some(rights) = self.rights {
+            write!(f, " rights={rights}")?;
+        }
+        match self.entries_read {
+            Some(count) => write!(f, " entries_read={count}"),
             None => Ok(()),
         }
     }

@@ -120,8 +120,11 @@ fn answers_meet_what_is_expected() {
 #[test]
 fn a_line_may_name_the_layer_and_the_rights() {
     let met = |line: &str, layer: Option<u64>, rights| {
-        let layer = layer.map(Layer::new);
-        let report = Report { layer, rights };
+        let report = Report {
+            layer: layer.map(Layer::new),
+            rights,
+            entries_read: None,
+        };
         let answer = Answer::Refused(Errno::EACCES);
         statement(line).allows(answer, Some(report))
     };
@@ -145,6 +148,23 @@ fn a_line_may_name_the_layer_and_the_rights() {
 }
 
 #[test]
+fn a_line_may_name_how_many_entries_are_read() {
+    let met = |line: &str, count| {
+        let report = Report {
+            layer: None,
+            rights: Mask::Files(Rights::NONE),
+            entries_read: Some(count),
+        };
+        statement(line).allows(Answer::Done, Some(report))
+    };
+    let line = "access main root 4 => 0 entries_read=2 layer=none";
+    assert!(met(line, 2) && !met(line, 1) && !met(line, 0));
+    assert!(met("access main root 4 => 0", 9));
+    let read = statement(line).expected.unwrap();
+    assert_eq!(read.to_string(), "0 layer=none entries_read=2");
+}
+
+#[test]
 fn words_about_a_report_that_are_no_such_words_are_bad_input() {
     for (line, word) in [
         ("access main root 6 => EACCES layer", "layer"),
@@ -155,6 +175,9 @@ fn words_about_a_report_that_are_no_such_words_are_bad_input() {
         ("access main root 6 => EACCES layer=0 layer=0", "layer=0"),
         ("access main root 6 => EACCES more", "more"),
         ("access main root 6 => EACCES entries=1", "entries=1"),
+        ("access main root 6 => EACCES entries_read=x", "x"),
+        ("port main 80 3 => EACCES entries_read=1", "entries_read=1"),
+        ("remove main 1 => 0 entries_read=0", "entries_read=0"),
         ("clone main => new 1 layer=0", "layer=0"),
         ("add_path_rule 0 root 4 => 0 rights=4", "rights=4"),
         ("clone main => new 1 more", "more"),

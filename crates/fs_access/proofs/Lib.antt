@@ -1,0 +1,2 @@
+-- The laws of access.
+pub mod Counts
