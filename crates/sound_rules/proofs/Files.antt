@@ -12,16 +12,11 @@ use Rattle.access.specs.Kinds.{directory}
 use Rattle.access.specs.Limits.{maxEntries}
 use Rattle.tables.specs.Tables.{kind, object, live, isDir}
 use Rattle.sound_objects.specs.Objects.{bucketOf, keyOf, Found, Missed, Stands, Indexed}
-use Rattle.sound_objects.proofs.Live.{first, first-kind}
+use Rattle.sound_objects.proofs.Live.{first, first-kind, same-dir}
 use Rattle.sound_objects.proofs.Trees.{found-some, found-object, found-node, missed-none}
 use Rattle.sound_objects.proofs.Index.{stands-alike}
 use Rattle.sound_rules.specs.Rules.{isFileOf, fileObject}
 use Rattle.sound_rules.proofs.Facts.{file-of, file-object, file-live, file-no-dir}
-
--- the kinds of two entries tell whether they are directories
-dir-alike : (es : List ℕ) (e f : ℕ) → kind es e ≡ kind es f → isDir es e ≡ isDir es f
-unfolding isDir
-dir-alike es e f h = rw h
 
 -- object o, which falls into bucket b
 module _ (es heads links : List ℕ) (o : ℕ) {b : ℕ} (u : Indexed es heads links) (q : b ≡ bucketOf o) where
@@ -49,7 +44,7 @@ module _ (es heads links : List ℕ) (o : ℕ) {b : ℕ} (u : Indexed es heads l
     file-node : (to ≡ 0 → ⊥) → not (isDir es (to - 1)) ≡ fileObject es o
     unfolding fileObject
     file-node d = split (isDir es (to - 1))
-        (λ y. not-of-true _ y ∙ no-file (λ e k h. clash (isDir es e) (dir-alike es e (to - 1) (stands-alike es (stands-for e k h) (rw q at s)) ∙ y) (file-no-dir es o e h)))
+        (λ y. not-of-true _ y ∙ no-file (λ e k h. clash (isDir es e) (same-dir es e (to - 1) (stands-alike es (stands-for e k h) (rw q at s)) ∙ y) (file-no-dir es o e h)))
         (λ y. not-of-false _ y ∙ any-found (isFileOf es o) maxEntries (to - 1) (let n = node-in .0 in omega arith) (file-of es o (to - 1) (node-in .1) y (found-object s)))
 
     pub file-by-node : {r : Bool} → (to ≡ 0 → ⊥) → r ≡ not (eqb (first es (to - 1)) directory) → r ≡ fileObject es o

@@ -14,6 +14,7 @@ use Rattle.laws.proofs.Cells.{past}
 use Rattle.access.specs.Kinds.{directory, lastKind}
 use Rattle.access.specs.Limits.{maxEntries}
 use Rattle.tables.specs.Tables.{entryWidth, kind, parent, object, live, isDir}
+use Rattle.sound_objects.proofs.Live.{same-dir}
 use Rattle.sound_tree.specs.Tree.{rootSound, reaches, liveSound, freeSound, entrySound, sameObject, linkSound, linksSound, entriesSound}
 
 -- entries of one object
@@ -52,10 +53,6 @@ linked es e f h a b o =
     let s : sameObject es e f ≡ true = both (eqb (object es e) (object es f)) _ (eq-eqb (object es e) (object es f) o) (both (live es e) (live es f) a b) in
     let k : allOf (eqb (kind es e) (kind es f) ∷ not (isDir es e) ∷ []) ≡ true = cond-then (sameObject es e f) _ true s h in
     (eqb-true (kind es e) (kind es f) (allOf-at _ 0 k), not-true (isDir es e) (allOf-at _ 1 k))
-
-same-dir : (es : List ℕ) (e f : ℕ) → kind es e ≡ kind es f → isDir es e ≡ isDir es f
-unfolding isDir
-same-dir es e f h = ap (λ (k : ℕ). eqb k directory) h
 
 module _ (es : List ℕ) (w : length es ≡ entryWidth * maxEntries) where
   pub in-table : (e : ℕ) → live es e ≡ true → e < maxEntries

@@ -27,6 +27,7 @@ use Rattle.sound.specs.Call.{call}
 use Rattle.sound.proofs.Facts.{facts}
 use Rattle.sound.proofs.Calls.{call-unsound, call-refused, call-done}
 use Rattle.judge.specs.Domain.{lacks, layerLacks, portLacks, layerPortLacks}
+use Rattle.judge.specs.Blame.{none}
 use Rattle.judge.specs.Rules.{rightsOn}
 use Rattle.judge.specs.Judge.{denied, missing, portMissing}
 use Rattle.judge.proofs.Laws.{has-missing, has-port-missing}
@@ -39,7 +40,7 @@ use Rattle.domain_end.specs.End.{endChecks, endDone, endCall}
 use Rattle.kept_end.proofs.Reached.{reached-in-use}
 use Rattle.fs.specs.Needs.{makeOf, removeOf}
 use Rattle.fs.specs.Move.{deniedNeeds, deniedRefer, uncontained, escaping, layerDenies, verdict}
-use Rattle.fs.specs.Blame.{crossed}
+use Rattle.fs.specs.Blame.{crossed, deniedMove, crossedMove}
 use Rattle.fs.proofs.Crossed.{crosses-any}
 use Rattle.fs.specs.declared.verdict.Move.{Move}
 use Rattle.fs_access.specs.Access.{accessNames, accessMask, accessChecks, accessCall}
@@ -52,7 +53,7 @@ use Rattle.tree.specs.Rename.{renameNames, renameShape, renameVerdict, renameLa
 use Rattle.tree.specs.Exchange.{exchangeNames, exchangeShape, exchangeVerdict, exchangeChecks, treeExchange}
 use Rattle.theorems.specs.Calls.{Call, create-ruleset, close-ruleset, add-path-rule, add-port-rule, restrict, layer-rules, clone, end-thread, set-no-new-privs, set-admin, access, port, create, remove, link, rename, exchange, outcomeOf, caller, reply}
 use Rattle.theorems.specs.Claim.{domainOf}
-use Rattle.theorems.specs.Named.{refusalsOf, deniedBy, crossedBy, askedBy, movedBy, Youngest, here, older, LayerNamed}
+use Rattle.theorems.specs.Named.{refusalsOf, judgedBy, ByVerdict, Lies, Youngest, here, older, LayerNamed}
 use Rattle.theorems.proofs.Naming.{blame-error, error-named}
 
 -- a set is not empty
@@ -213,9 +214,9 @@ number T (link t a d) = named-number T (linkChecks T t a d) _ _ refl t _ _
 number T (rename t a d x) = named-number T (renameChecks T t a d x) _ _ refl t _ _
 number T (exchange t a d x) = named-number T (exchangeChecks T t a d x) _ _ refl t _ _
 
-told : (T : Tables) (c : Call) (e : Errno) (l : ℕ) (s : Rights) → reply T c ≡ Denied e l s
-    → ((e .0 ≡ EACCES) × Youngest (deniedBy T c) (domainOf T (caller c)) l (s .0)) ⊎ ((e .0 ≡ EXDEV) × Youngest (crossedBy T c) (domainOf T (caller c)) l (s .0))
-unfolding outcomeOf created createDone closed closeDone pathAdded portAdded addDone restrictCall restrictDone cloned cloneDone endCall endDone privsSet adminSet markDone layerRead accessCall portCall treeCreate treeRemove treeLink treeRename treeExchange deniedBy crossedBy caller
+told : (T : Tables) (c : Call) (e : Errno) (l : ℕ) (s : Rights) → reply T c ≡ Denied e l s → ByVerdict T c e l s
+unfolding outcomeOf created createDone closed closeDone pathAdded portAdded addDone restrictCall restrictDone cloned cloneDone endCall endDone privsSet adminSet markDone layerRead accessCall portCall treeCreate treeRemove treeLink treeRename treeExchange judgedBy caller first accessChecks accessNames portChecks portForm
+    treeCreateChecks createShape removeChecks removeShape linkChecks linkShape renameChecks renameNames exchangeChecks exchangeNames
 told T (create-ruleset bs flags) e l s h = plain-denied T (createChecks T bs flags) _ _ refl h
 told T (close-ruleset r) e l s h = plain-denied T (closeChecks T r) _ _ refl h
 told T (add-path-rule r x rights flags) e l s h = plain-denied T (addPathChecks T r x rights flags) _ _ refl h
@@ -226,13 +227,13 @@ told T (clone t) e l s h = plain-denied T (cloneChecks T t) _ _ refl h
 told T (end-thread t) e l s h = plain-denied T (endChecks T t) _ _ refl h
 told T (set-no-new-privs t) e l s h = plain-denied T (markChecks T t) _ _ refl h
 told T (set-admin t on) e l s h = plain-denied T (markChecks T t) _ _ refl h
-told T (access t x m) e l s h = named-denied T (accessChecks T t x m) _ _ refl t _ _ h .2
-told T (port t p m) e l s h = named-denied T (portChecks T t p m) _ _ refl t _ _ h .2
-told T (create t d k) e l s h = named-denied T (treeCreateChecks T t d k) _ _ refl t _ _ h .2
-told T (remove t x) e l s h = named-denied T (removeChecks T t x) _ _ refl t _ _ h .2
-told T (link t a d) e l s h = named-denied T (linkChecks T t a d) _ _ refl t _ _ h .2
-told T (rename t a d x) e l s h = named-denied T (renameChecks T t a d x) _ _ refl t _ _ h .2
-told T (exchange t a d x) e l s h = named-denied T (exchangeChecks T t a d x) _ _ refl t _ _ h .2
+told T (access t x m) e l s h = record { named = named-denied T (accessChecks T t x m) _ _ refl t _ _ h .2; below = named-below T (accessChecks T t x m) _ _ refl t _ _ (λ q. rw q refl) h }
+told T (port t p m) e l s h = record { named = named-denied T (portChecks T t p m) _ _ refl t _ _ h .2; below = named-below T (portChecks T t p m) _ _ refl t _ _ (λ q. rw q refl) h }
+told T (create t d k) e l s h = record { named = named-denied T (treeCreateChecks T t d k) _ _ refl t _ _ h .2; below = named-below T (treeCreateChecks T t d k) _ _ refl t _ _ (λ q. rw q refl) h }
+told T (remove t x) e l s h = record { named = named-denied T (removeChecks T t x) _ _ refl t _ _ h .2; below = named-below T (removeChecks T t x) _ _ refl t _ _ (λ q. rw q refl) h }
+told T (link t a d) e l s h = record { named = named-denied T (linkChecks T t a d) _ _ refl t _ _ h .2; below = named-below T (linkChecks T t a d) _ _ refl t _ _ (λ q. rw q refl) h }
+told T (rename t a d x) e l s h = record { named = named-denied T (renameChecks T t a d x) _ _ refl t _ _ h .2; below = named-below T (renameChecks T t a d x) _ _ refl t _ _ (λ q. rw q refl) h }
+told T (exchange t a d x) e l s h = record { named = named-denied T (exchangeChecks T t a d x) _ _ refl t _ _ h .2; below = named-below T (exchangeChecks T t a d x) _ _ refl t _ _ (λ q. rw q refl) h }
 
 -- a list without the numbers of a verdict, but for those that fail
 others : (T : Tables) (c : Call) (e : Errno) → reply T c ≡ Refused e → (e .0 ≡ EACCES → ⊥) × (e .0 ≡ EXDEV → ⊥)
@@ -257,27 +258,6 @@ others T (remove t x) e h = named-refused T (removeChecks T t x) _ _ refl t _ _ 
 others T (link t a d) e h = named-refused T (linkChecks T t a d) _ _ refl t _ _ (λ q. (q, tt)) (λ q. (sym (crosses-any T (linkMove (T .entries) a d) (domainOf T t)) ∙ q, tt)) h
 others T (rename t a d x) e h = named-refused T (renameChecks T t a d x) _ _ refl t _ _ (λ q. (q, tt)) (λ q. (sym (crosses-any T (renameMove (T .entries) a d x) (domainOf T t)) ∙ q, tt)) h
 others T (exchange t a d x) e h = named-refused T (exchangeChecks T t a d x) _ _ refl t _ _ (λ q. (q, tt)) (λ q. (sym (crosses-any T (exchangeMove (T .entries) a d x) (domainOf T t)) ∙ q, tt)) h
-
-below : (T : Tables) (c : Call) (e : Errno) (l : ℕ) (s : Rights) → reply T c ≡ Denied e l s → l < maxLayers
-unfolding outcomeOf created createDone closed closeDone pathAdded portAdded addDone restrictCall restrictDone cloned cloneDone endCall endDone privsSet adminSet markDone layerRead accessCall portCall treeCreate treeRemove treeLink treeRename treeExchange first accessChecks accessNames portChecks portForm
-    treeCreateChecks createShape removeChecks removeShape linkChecks linkShape renameChecks renameNames exchangeChecks exchangeNames
-below T (create-ruleset bs flags) e l s h = plain-denied T (createChecks T bs flags) _ _ refl h
-below T (close-ruleset r) e l s h = plain-denied T (closeChecks T r) _ _ refl h
-below T (add-path-rule r x rights flags) e l s h = plain-denied T (addPathChecks T r x rights flags) _ _ refl h
-below T (add-port-rule r p rights flags) e l s h = plain-denied T (addPortChecks T r p rights flags) _ _ refl h
-below T (restrict t r flags) e l s h = plain-denied T (restrictChecks T t r flags) _ _ refl h
-below T (layer-rules k) e l s h = plain-denied T (layerChecks T k) _ _ refl h
-below T (clone t) e l s h = plain-denied T (cloneChecks T t) _ _ refl h
-below T (end-thread t) e l s h = plain-denied T (endChecks T t) _ _ refl h
-below T (set-no-new-privs t) e l s h = plain-denied T (markChecks T t) _ _ refl h
-below T (set-admin t on) e l s h = plain-denied T (markChecks T t) _ _ refl h
-below T (access t x m) e l s h = named-below T (accessChecks T t x m) _ _ refl t _ _ (λ q. rw q refl) h
-below T (port t p m) e l s h = named-below T (portChecks T t p m) _ _ refl t _ _ (λ q. rw q refl) h
-below T (create t d k) e l s h = named-below T (treeCreateChecks T t d k) _ _ refl t _ _ (λ q. rw q refl) h
-below T (remove t x) e l s h = named-below T (removeChecks T t x) _ _ refl t _ _ (λ q. rw q refl) h
-below T (link t a d) e l s h = named-below T (linkChecks T t a d) _ _ refl t _ _ (λ q. rw q refl) h
-below T (rename t a d x) e l s h = named-below T (renameChecks T t a d x) _ _ refl t _ _ (λ q. rw q refl) h
-below T (exchange t a d x) e l s h = named-below T (exchangeChecks T t a d x) _ _ refl t _ _ (λ q. rw q refl) h
 
 -- ---- where the sets lie
 none-within : (m : ℕ) → within 0 m ≡ true
@@ -333,45 +313,38 @@ module _ (es : List ℕ) (L : Layer) (m : Move) where
       (λ z. inr (rw (q, z) (join-within _ _ (m .rights .0) (m .back .0) (uncontained-within (m .source) (m .target) (m .object) (m .rights .0)) (uncontained-within (m .target) (m .source) (m .other) (m .back .0)))))
       (λ z. inl (rw (q, z) refl)))
 
-asked : (T : Tables) (c : Call) (l : ℕ) → within (deniedBy T c l) (askedBy T c) ≡ true
-unfolding deniedBy askedBy
-asked T (create-ruleset bs flags) l = none-within 0
-asked T (close-ruleset r) l = none-within 0
-asked T (add-path-rule r e rights flags) l = none-within 0
-asked T (add-port-rule r p rights flags) l = none-within 0
-asked T (restrict t r flags) l = none-within 0
-asked T (layer-rules k) l = none-within 0
-asked T (clone t) l = none-within 0
-asked T (end-thread t) l = none-within 0
-asked T (set-no-new-privs t) l = none-within 0
-asked T (set-admin t on) l = none-within 0
-asked T (access t e m) l = missing-within (T .entries) (layerAt (T .layers) (T .pool) l) e m
-asked T (port t p m) l = port-within (layerAt (T .layers) (T .pool) l) p m
-asked T (create t d k) l = missing-within (T .entries) (layerAt (T .layers) (T .pool) l) d (makeOf (kindOf k))
-asked T (remove t e) l = missing-within (T .entries) (layerAt (T .layers) (T .pool) l) (parent (T .entries) e) (removeOf (kindOf (kind (T .entries) e)))
-asked T (link t s d) l = needs-within (T .entries) (layerAt (T .layers) (T .pool) l) (linkMove (T .entries) s d)
-asked T (rename t s d x) l = needs-within (T .entries) (layerAt (T .layers) (T .pool) l) (renameMove (T .entries) s d x)
-asked T (exchange t s d x) l = needs-within (T .entries) (layerAt (T .layers) (T .pool) l) (exchangeMove (T .entries) s d x)
+move-lies : (T : Tables) (m : Move)
+    → Lies (record { denied = deniedMove T m; crossed = crossedMove T m; asked = without (join (m .leave .0) (m .enter .0)) REFER; moved = join (m .rights .0) (m .back .0) })
+move-lies T m = record {
+  denied = λ l. needs-within (T .entries) (layerAt (T .layers) (T .pool) l) m;
+  crossed = λ l. crossed-within (T .entries) (layerAt (T .layers) (T .pool) l) m;
+}
 
-moved : (T : Tables) (c : Call) (l : ℕ) → (crossedBy T c l ≡ REFER) ⊎ (within (crossedBy T c l) (movedBy T c) ≡ true)
-unfolding crossedBy movedBy
-moved T (create-ruleset bs flags) l = inr (none-within 0)
-moved T (close-ruleset r) l = inr (none-within 0)
-moved T (add-path-rule r e rights flags) l = inr (none-within 0)
-moved T (add-port-rule r p rights flags) l = inr (none-within 0)
-moved T (restrict t r flags) l = inr (none-within 0)
-moved T (layer-rules k) l = inr (none-within 0)
-moved T (clone t) l = inr (none-within 0)
-moved T (end-thread t) l = inr (none-within 0)
-moved T (set-no-new-privs t) l = inr (none-within 0)
-moved T (set-admin t on) l = inr (none-within 0)
-moved T (access t e m) l = inr (none-within 0)
-moved T (port t p m) l = inr (none-within 0)
-moved T (create t d k) l = inr (none-within 0)
-moved T (remove t e) l = inr (none-within 0)
-moved T (link t s d) l = crossed-within (T .entries) (layerAt (T .layers) (T .pool) l) (linkMove (T .entries) s d)
-moved T (rename t s d x) l = crossed-within (T .entries) (layerAt (T .layers) (T .pool) l) (renameMove (T .entries) s d x)
-moved T (exchange t s d x) l = crossed-within (T .entries) (layerAt (T .layers) (T .pool) l) (exchangeMove (T .entries) s d x)
+nothing-lies : {a : ℕ} → Lies (record { denied = none; crossed = none; asked = a; moved = 0 })
+nothing-lies {a} = record { denied = λ l. none-within a; crossed = λ l. inr (none-within 0) }
+
+lies-at : (f : ℕ → ℕ) (m : ℕ) → ((l : ℕ) → within (f l) m ≡ true) → Lies (record { denied = f; crossed = none; asked = m; moved = 0 })
+lies-at f m h = record { denied = h; crossed = λ l. inr (none-within 0) }
+
+lies : (T : Tables) (c : Call) → Lies (judgedBy T c)
+unfolding judgedBy
+lies T (create-ruleset bs flags) = nothing-lies
+lies T (close-ruleset r) = nothing-lies
+lies T (add-path-rule r x rights flags) = nothing-lies
+lies T (add-port-rule r p rights flags) = nothing-lies
+lies T (restrict t r flags) = nothing-lies
+lies T (layer-rules k) = nothing-lies
+lies T (clone t) = nothing-lies
+lies T (end-thread t) = nothing-lies
+lies T (set-no-new-privs t) = nothing-lies
+lies T (set-admin t on) = nothing-lies
+lies T (access t e m) = lies-at _ m (λ l. missing-within (T .entries) (layerAt (T .layers) (T .pool) l) e m)
+lies T (port t p m) = lies-at _ m (λ l. port-within (layerAt (T .layers) (T .pool) l) p m)
+lies T (create t d k) = lies-at _ (makeOf (kindOf k)) (λ l. missing-within (T .entries) (layerAt (T .layers) (T .pool) l) d (makeOf (kindOf k)))
+lies T (remove t e) = let m = removeOf (kindOf (kind (T .entries) e)) in lies-at _ m (λ l. missing-within (T .entries) (layerAt (T .layers) (T .pool) l) (parent (T .entries) e) m)
+lies T (link t s d) = move-lies T (linkMove (T .entries) s d)
+lies T (rename t s d x) = move-lies T (renameMove (T .entries) s d x)
+lies T (exchange t s d x) = move-lies T (exchangeMove (T .entries) s d x)
 
 pub layer-named : LayerNamed
-layer-named = record { number = number; denied = told; others = others; below = below; asked = asked; moved = moved }
+layer-named = record { number = number; denied = told; others = others; lies = lies }

@@ -15,7 +15,7 @@ use Rattle.access.specs.declared.rights.Rights.{Rights}
 use Rattle.tables.specs.Tables.{Tables, kind, parent}
 use Rattle.tables.specs.Outcome.{errorOf}
 use Rattle.sound.specs.Sound.{sound}
-use Rattle.judge.specs.Blame.{deniedAt, deniedPort}
+use Rattle.judge.specs.Blame.{none, deniedAt, deniedPort}
 use Rattle.ruleset.specs.Create.{createChecks, closeChecks}
 use Rattle.rule.specs.Rule.{addPathChecks, addPortChecks}
 use Rattle.domain_restrict.specs.Restrict.{restrictChecks}
@@ -55,108 +55,74 @@ refusalsOf T (link t s d) = linkChecks T t s d
 refusalsOf T (rename t s d x) = renameChecks T t s d x
 refusalsOf T (exchange t s d x) = exchangeChecks T t s d x
 
--- what layer l denies of what a call asks for or needs; nothing where there is no verdict
-unfoldable pub deniedBy : Tables → Call → ℕ → ℕ
-deniedBy T (create-ruleset bs flags) l = 0
-deniedBy T (close-ruleset r) l = 0
-deniedBy T (add-path-rule r e rights flags) l = 0
-deniedBy T (add-port-rule r p rights flags) l = 0
-deniedBy T (restrict t r flags) l = 0
-deniedBy T (layer-rules k) l = 0
-deniedBy T (clone t) l = 0
-deniedBy T (end-thread t) l = 0
-deniedBy T (set-no-new-privs t) l = 0
-deniedBy T (set-admin t on) l = 0
-deniedBy T (access t e m) l = deniedAt T e m l
-deniedBy T (port t p m) l = deniedPort T p m l
-deniedBy T (create t d k) l = deniedAt T d (makeOf (kindOf k)) l
-deniedBy T (remove t e) l = deniedAt T (parent (T .entries) e) (removeOf (kindOf (kind (T .entries) e))) l
-deniedBy T (link t s d) l = deniedMove T (linkMove (T .entries) s d) l
-deniedBy T (rename t s d x) l = deniedMove T (renameMove (T .entries) s d x) l
-deniedBy T (exchange t s d x) l = deniedMove T (exchangeMove (T .entries) s d x) l
+-- what a verdict judges: the sets of each layer, for EACCES and for EXDEV; what was asked for or needed, and the rights of the kinds that move
+pub record Judged : Type 0 where
+  pub denied : ℕ → ℕ
+  pub crossed : ℕ → ℕ
+  pub asked : ℕ
+  pub moved : ℕ
 
--- what layer l holds against a move between two directories
-unfoldable pub crossedBy : Tables → Call → ℕ → ℕ
-crossedBy T (create-ruleset bs flags) l = 0
-crossedBy T (close-ruleset r) l = 0
-crossedBy T (add-path-rule r e rights flags) l = 0
-crossedBy T (add-port-rule r p rights flags) l = 0
-crossedBy T (restrict t r flags) l = 0
-crossedBy T (layer-rules k) l = 0
-crossedBy T (clone t) l = 0
-crossedBy T (end-thread t) l = 0
-crossedBy T (set-no-new-privs t) l = 0
-crossedBy T (set-admin t on) l = 0
-crossedBy T (access t e m) l = 0
-crossedBy T (port t p m) l = 0
-crossedBy T (create t d k) l = 0
-crossedBy T (remove t e) l = 0
-crossedBy T (link t s d) l = crossedMove T (linkMove (T .entries) s d) l
-crossedBy T (rename t s d x) l = crossedMove T (renameMove (T .entries) s d x) l
-crossedBy T (exchange t s d x) l = crossedMove T (exchangeMove (T .entries) s d x) l
+abbrev nothing : Judged
+nothing = record { denied = none; crossed = none; asked = 0; moved = 0 }
 
--- what a call asks for; of a tree change the needs other than REFER
-abbrev needsOf : Move → ℕ
-needsOf m = without (join (m .leave .0) (m .enter .0)) REFER
+abbrev atEntry : Tables → ℕ → ℕ → Judged
+atEntry T e m = record { denied = deniedAt T e m; crossed = none; asked = m; moved = 0 }
 
-unfoldable pub askedBy : Tables → Call → ℕ
-askedBy T (create-ruleset bs flags) = 0
-askedBy T (close-ruleset r) = 0
-askedBy T (add-path-rule r e rights flags) = 0
-askedBy T (add-port-rule r p rights flags) = 0
-askedBy T (restrict t r flags) = 0
-askedBy T (layer-rules k) = 0
-askedBy T (clone t) = 0
-askedBy T (end-thread t) = 0
-askedBy T (set-no-new-privs t) = 0
-askedBy T (set-admin t on) = 0
-askedBy T (access t e m) = m
-askedBy T (port t p m) = m
-askedBy T (create t d k) = makeOf (kindOf k)
-askedBy T (remove t e) = removeOf (kindOf (kind (T .entries) e))
-askedBy T (link t s d) = needsOf (linkMove (T .entries) s d)
-askedBy T (rename t s d x) = needsOf (renameMove (T .entries) s d x)
-askedBy T (exchange t s d x) = needsOf (exchangeMove (T .entries) s d x)
+abbrev atPort : Tables → ℕ → ℕ → Judged
+atPort T p m = record { denied = deniedPort T p m; crossed = none; asked = m; moved = 0 }
 
--- the rights of the kinds that a call moves
-abbrev kindsOf : Move → ℕ
-kindsOf m = join (m .rights .0) (m .back .0)
+-- the needs other than REFER, and both entries of an exchange
+abbrev ofMove : Tables → Move → Judged
+ofMove T m =
+    record {
+      denied = deniedMove T m;
+      crossed = crossedMove T m;
+      asked = without (join (m .leave .0) (m .enter .0)) REFER;
+      moved = join (m .rights .0) (m .back .0);
+    }
 
-unfoldable pub movedBy : Tables → Call → ℕ
-movedBy T (create-ruleset bs flags) = 0
-movedBy T (close-ruleset r) = 0
-movedBy T (add-path-rule r e rights flags) = 0
-movedBy T (add-port-rule r p rights flags) = 0
-movedBy T (restrict t r flags) = 0
-movedBy T (layer-rules k) = 0
-movedBy T (clone t) = 0
-movedBy T (end-thread t) = 0
-movedBy T (set-no-new-privs t) = 0
-movedBy T (set-admin t on) = 0
-movedBy T (access t e m) = 0
-movedBy T (port t p m) = 0
-movedBy T (create t d k) = 0
-movedBy T (remove t e) = 0
-movedBy T (link t s d) = kindsOf (linkMove (T .entries) s d)
-movedBy T (rename t s d x) = kindsOf (renameMove (T .entries) s d x)
-movedBy T (exchange t s d x) = kindsOf (exchangeMove (T .entries) s d x)
+unfoldable pub judgedBy : Tables → Call → Judged
+judgedBy T (create-ruleset bs flags) = nothing
+judgedBy T (close-ruleset r) = nothing
+judgedBy T (add-path-rule r e rights flags) = nothing
+judgedBy T (add-port-rule r p rights flags) = nothing
+judgedBy T (restrict t r flags) = nothing
+judgedBy T (layer-rules k) = nothing
+judgedBy T (clone t) = nothing
+judgedBy T (end-thread t) = nothing
+judgedBy T (set-no-new-privs t) = nothing
+judgedBy T (set-admin t on) = nothing
+judgedBy T (access t e m) = atEntry T e m
+judgedBy T (port t p m) = atPort T p m
+judgedBy T (create t d k) = atEntry T d (makeOf (kindOf k))
+judgedBy T (remove t e) = atEntry T (parent (T .entries) e) (removeOf (kindOf (kind (T .entries) e)))
+judgedBy T (link t s d) = ofMove T (linkMove (T .entries) s d)
+judgedBy T (rename t s d x) = ofMove T (renameMove (T .entries) s d x)
+judgedBy T (exchange t s d x) = ofMove T (exchangeMove (T .entries) s d x)
 
 -- "the youngest layer whose set is not empty, and that set": l with s, of the layers D, youngest first, with the sets f
 pub data Youngest (f : ℕ → ℕ) : List ℕ → ℕ → ℕ → Type 0 where
   here : {l : ℕ} {D : List ℕ} → (f l ≡ 0 → ⊥) → Youngest f (l ∷ D) l (f l)
   older : {k l s : ℕ} {D : List ℕ} → f k ≡ 0 → Youngest f D l s → Youngest f (k ∷ D) l s
 
+-- EACCES names the youngest layer of the caller's domain that denies something, EXDEV the youngest that holds something against the move
+pub record ByVerdict (T : Tables) (c : Call) (e : Errno) (l : ℕ) (s : Rights) : Type 0 where
+  pub named : ((e .0 ≡ EACCES) × Youngest (judgedBy T c .denied) (domainOf T (caller c)) l (s .0)) ⊎ ((e .0 ≡ EXDEV) × Youngest (judgedBy T c .crossed) (domainOf T (caller c)) l (s .0))
+  -- it is one of the records
+  pub below : l < maxLayers
+
+-- what a layer denies lies in what was asked for or needed; what it holds against a move is REFER, or lies in the rights of what moves
+pub record Lies (j : Judged) : Type 0 where
+  pub denied : (l : ℕ) → within (j .denied l) (j .asked) ≡ true
+  pub crossed : (l : ℕ) → (j .crossed l ≡ REFER) ⊎ (within (j .crossed l) (j .moved) ≡ true)
+
 -- on any tables, sound or not
 pub record LayerNamed : Type 0 where
   -- the error number is that of the first refusal, as it was without a layer
   pub number : (T : Tables) (c : Call) → errorOf (reply T c) ≡ first (not (sound T) ⇒ EIO ∷ refusalsOf T c)
-  -- EACCES names the youngest layer of the caller's domain that denies something, EXDEV the youngest that holds something against the move
-  pub denied : (T : Tables) (c : Call) (e : Errno) (l : ℕ) (s : Rights) → reply T c ≡ Denied e l s
-      → ((e .0 ≡ EACCES) × Youngest (deniedBy T c) (domainOf T (caller c)) l (s .0)) ⊎ ((e .0 ≡ EXDEV) × Youngest (crossedBy T c) (domainOf T (caller c)) l (s .0))
+  -- a layer is named as `ByVerdict` says
+  pub denied : (T : Tables) (c : Call) (e : Errno) (l : ℕ) (s : Rights) → reply T c ≡ Denied e l s → ByVerdict T c e l s
   -- every other refusal names none
   pub others : (T : Tables) (c : Call) (e : Errno) → reply T c ≡ Refused e → (e .0 ≡ EACCES → ⊥) × (e .0 ≡ EXDEV → ⊥)
-  -- the layer is one of the records
-  pub below : (T : Tables) (c : Call) (e : Errno) (l : ℕ) (s : Rights) → reply T c ≡ Denied e l s → l < maxLayers
-  -- what a layer denies lies in what was asked for or needed; what it holds against a move is REFER, or lies in the rights of what moves
-  pub asked : (T : Tables) (c : Call) (l : ℕ) → within (deniedBy T c l) (askedBy T c) ≡ true
-  pub moved : (T : Tables) (c : Call) (l : ℕ) → (crossedBy T c l ≡ REFER) ⊎ (within (crossedBy T c l) (movedBy T c) ≡ true)
+  -- the sets lie in what was judged
+  pub lies : (T : Tables) (c : Call) → Lies (judgedBy T c)

@@ -50,6 +50,11 @@ module _ (ls : List ℕ) (a b : ℕ → ℕ) where
   walk-up k set (suc n) zero h d t = absurd (h refl)
   walk-up k set (suc n) (suc l) h d t = rw (sub-one (suc n), sub-one (suc l), rw (sub-one (suc l)) at t) refl
 
+  -- a domain without a layer
+  pub no-denial : (n y : ℕ) → y ≡ 0 → None ≡ denial a b 0 0 (chain ls n y)
+  unfolding crossedAt
+  no-denial n y h = sym (walk-end 0 0 n y h)
+
   -- a loop over the chain: `whole` is the answer
   module _ {whole : Denial} (k set n y : ℕ) (inv : whole ≡ denial a b k set (chain ls n y)) where
     pub loop-end : {r : Denial} → y ≡ 0 → r ≡ crossedAt k set → r ≡ whole
@@ -86,6 +91,9 @@ module _ (ls : List ℕ) (g : ℕ → ℕ) where
   unfolding chain largest
   largest-end zero y h = refl
   largest-end (suc n) y h = rw h refl
+
+  pub none-read : (n y : ℕ) → y ≡ 0 → 0 ≡ largest g (chain ls n y)
+  none-read n y h = sym (largest-end n y h)
 
   largest-none : (n y : ℕ) → n ≡ 0 → largest g (chain ls n y) ≡ 0
   unfolding chain largest

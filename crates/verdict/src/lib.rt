@@ -153,7 +153,7 @@ fn domain_judged(entries: &[u64], layers: &[u64], pool: &[u64], y: u64, q: Quest
     }
 }
 
-// What the domain of a thread answers.
+// What the domain of a thread answers. Without a layer nothing is asked.
 pub fn thread_judged(
     entries: &[u64],
     layers: &[u64],
@@ -165,7 +165,14 @@ pub fn thread_judged(
     ensures denial { λ r. ⌜ r .denial ≡ threadDenial (now (entries .entry)) (now (layers .entry)) (now (pool .entry)) (now (threads .entry)) t q ⌝ }
     ensures read { λ r. ⌜ r .read ≡ threadReads (now (entries .entry)) (now (layers .entry)) (now (pool .entry)) (now (threads .entry)) t q ⌝ }
 {
-    domain_judged(entries, layers, pool, youngest_of(threads, t), q)
+    let y = youngest_of(threads, t);
+    if y == 0 {
+        return Judged {
+            denial: Denial::None,
+            read: 0,
+        };
+    }
+    domain_judged(entries, layers, pool, y, q)
 }
 
 // The denial alone.

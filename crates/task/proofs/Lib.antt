@@ -1,0 +1,4 @@
+-- The laws of requests between threads.
+pub mod Walks
+pub mod Replies
+pub mod Reach

@@ -1,0 +1,2 @@
+-- Requests between threads.
+pub mod Task
