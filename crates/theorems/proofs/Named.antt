@@ -53,7 +53,7 @@ use Rattle.tree.specs.Rename.{renameNames, renameShape, renameVerdict, renameLa
 use Rattle.tree.specs.Exchange.{exchangeNames, exchangeShape, exchangeVerdict, exchangeChecks, treeExchange}
 use Rattle.theorems.specs.Calls.{Call, create-ruleset, close-ruleset, add-path-rule, add-port-rule, restrict, layer-rules, clone, end-thread, set-no-new-privs, set-admin, access, port, create, remove, link, rename, exchange, outcomeOf, caller, reply}
 use Rattle.theorems.specs.Claim.{domainOf}
-use Rattle.theorems.specs.Named.{refusalsOf, judgedBy, ByVerdict, Lies, Youngest, here, older, LayerNamed}
+use Rattle.theorems.specs.Named.{refusalsOf, verdictOn, ByVerdict, Lies, Youngest, here, older, LayerNamed}
 use Rattle.theorems.proofs.Naming.{blame-error, error-named}
 
 -- a set is not empty
@@ -215,7 +215,7 @@ number T (rename t a d x) = named-number T (renameChecks T t a d x) _ _ refl t _
 number T (exchange t a d x) = named-number T (exchangeChecks T t a d x) _ _ refl t _ _
 
 told : (T : Tables) (c : Call) (e : Errno) (l : ℕ) (s : Rights) → reply T c ≡ Denied e l s → ByVerdict T c e l s
-unfolding outcomeOf created createDone closed closeDone pathAdded portAdded addDone restrictCall restrictDone cloned cloneDone endCall endDone privsSet adminSet markDone layerRead accessCall portCall treeCreate treeRemove treeLink treeRename treeExchange judgedBy caller first accessChecks accessNames portChecks portForm
+unfolding outcomeOf created createDone closed closeDone pathAdded portAdded addDone restrictCall restrictDone cloned cloneDone endCall endDone privsSet adminSet markDone layerRead accessCall portCall treeCreate treeRemove treeLink treeRename treeExchange verdictOn caller first accessChecks accessNames portChecks portForm
     treeCreateChecks createShape removeChecks removeShape linkChecks linkShape renameChecks renameNames exchangeChecks exchangeNames
 told T (create-ruleset bs flags) e l s h = plain-denied T (createChecks T bs flags) _ _ refl h
 told T (close-ruleset r) e l s h = plain-denied T (closeChecks T r) _ _ refl h
@@ -326,8 +326,8 @@ nothing-lies {a} = record { denied = λ l. none-within a; crossed = λ l. inr (n
 lies-at : (f : ℕ → ℕ) (m : ℕ) → ((l : ℕ) → within (f l) m ≡ true) → Lies (record { denied = f; crossed = none; asked = m; moved = 0 })
 lies-at f m h = record { denied = h; crossed = λ l. inr (none-within 0) }
 
-lies : (T : Tables) (c : Call) → Lies (judgedBy T c)
-unfolding judgedBy
+lies : (T : Tables) (c : Call) → Lies (verdictOn T c)
+unfolding verdictOn
 lies T (create-ruleset bs flags) = nothing-lies
 lies T (close-ruleset r) = nothing-lies
 lies T (add-path-rule r x rights flags) = nothing-lies

@@ -56,23 +56,23 @@ refusalsOf T (rename t s d x) = renameChecks T t s d x
 refusalsOf T (exchange t s d x) = exchangeChecks T t s d x
 
 -- what a verdict judges: the sets of each layer, for EACCES and for EXDEV; what was asked for or needed, and the rights of the kinds that move
-pub record Judged : Type 0 where
+pub record Verdict : Type 0 where
   pub denied : ℕ → ℕ
   pub crossed : ℕ → ℕ
   pub asked : ℕ
   pub moved : ℕ
 
-abbrev nothing : Judged
+abbrev nothing : Verdict
 nothing = record { denied = none; crossed = none; asked = 0; moved = 0 }
 
-abbrev atEntry : Tables → ℕ → ℕ → Judged
+abbrev atEntry : Tables → ℕ → ℕ → Verdict
 atEntry T e m = record { denied = deniedAt T e m; crossed = none; asked = m; moved = 0 }
 
-abbrev atPort : Tables → ℕ → ℕ → Judged
+abbrev atPort : Tables → ℕ → ℕ → Verdict
 atPort T p m = record { denied = deniedPort T p m; crossed = none; asked = m; moved = 0 }
 
 -- the needs other than REFER, and both entries of an exchange
-abbrev ofMove : Tables → Move → Judged
+abbrev ofMove : Tables → Move → Verdict
 ofMove T m =
     record {
       denied = deniedMove T m;
@@ -81,24 +81,24 @@ ofMove T m =
       moved = join (m .rights .0) (m .back .0);
     }
 
-unfoldable pub judgedBy : Tables → Call → Judged
-judgedBy T (create-ruleset bs flags) = nothing
-judgedBy T (close-ruleset r) = nothing
-judgedBy T (add-path-rule r e rights flags) = nothing
-judgedBy T (add-port-rule r p rights flags) = nothing
-judgedBy T (restrict t r flags) = nothing
-judgedBy T (layer-rules k) = nothing
-judgedBy T (clone t) = nothing
-judgedBy T (end-thread t) = nothing
-judgedBy T (set-no-new-privs t) = nothing
-judgedBy T (set-admin t on) = nothing
-judgedBy T (access t e m) = atEntry T e m
-judgedBy T (port t p m) = atPort T p m
-judgedBy T (create t d k) = atEntry T d (makeOf (kindOf k))
-judgedBy T (remove t e) = atEntry T (parent (T .entries) e) (removeOf (kindOf (kind (T .entries) e)))
-judgedBy T (link t s d) = ofMove T (linkMove (T .entries) s d)
-judgedBy T (rename t s d x) = ofMove T (renameMove (T .entries) s d x)
-judgedBy T (exchange t s d x) = ofMove T (exchangeMove (T .entries) s d x)
+unfoldable pub verdictOn : Tables → Call → Verdict
+verdictOn T (create-ruleset bs flags) = nothing
+verdictOn T (close-ruleset r) = nothing
+verdictOn T (add-path-rule r e rights flags) = nothing
+verdictOn T (add-port-rule r p rights flags) = nothing
+verdictOn T (restrict t r flags) = nothing
+verdictOn T (layer-rules k) = nothing
+verdictOn T (clone t) = nothing
+verdictOn T (end-thread t) = nothing
+verdictOn T (set-no-new-privs t) = nothing
+verdictOn T (set-admin t on) = nothing
+verdictOn T (access t e m) = atEntry T e m
+verdictOn T (port t p m) = atPort T p m
+verdictOn T (create t d k) = atEntry T d (makeOf (kindOf k))
+verdictOn T (remove t e) = atEntry T (parent (T .entries) e) (removeOf (kindOf (kind (T .entries) e)))
+verdictOn T (link t s d) = ofMove T (linkMove (T .entries) s d)
+verdictOn T (rename t s d x) = ofMove T (renameMove (T .entries) s d x)
+verdictOn T (exchange t s d x) = ofMove T (exchangeMove (T .entries) s d x)
 
 -- "the youngest layer whose set is not empty, and that set": l with s, of the layers D, youngest first, with the sets f
 pub data Youngest (f : ℕ → ℕ) : List ℕ → ℕ → ℕ → Type 0 where
@@ -107,12 +107,12 @@ pub data Youngest (f : ℕ → ℕ) : List ℕ → ℕ → ℕ → Type 0 where
 
 -- EACCES names the youngest layer of the caller's domain that denies something, EXDEV the youngest that holds something against the move
 pub record ByVerdict (T : Tables) (c : Call) (e : Errno) (l : ℕ) (s : Rights) : Type 0 where
-  pub named : ((e .0 ≡ EACCES) × Youngest (judgedBy T c .denied) (domainOf T (caller c)) l (s .0)) ⊎ ((e .0 ≡ EXDEV) × Youngest (judgedBy T c .crossed) (domainOf T (caller c)) l (s .0))
+  pub named : ((e .0 ≡ EACCES) × Youngest (verdictOn T c .denied) (domainOf T (caller c)) l (s .0)) ⊎ ((e .0 ≡ EXDEV) × Youngest (verdictOn T c .crossed) (domainOf T (caller c)) l (s .0))
   -- it is one of the records
   pub below : l < maxLayers
 
 -- what a layer denies lies in what was asked for or needed; what it holds against a move is REFER, or lies in the rights of what moves
-pub record Lies (j : Judged) : Type 0 where
+pub record Lies (j : Verdict) : Type 0 where
   pub denied : (l : ℕ) → within (j .denied l) (j .asked) ≡ true
   pub crossed : (l : ℕ) → (j .crossed l ≡ REFER) ⊎ (within (j .crossed l) (j .moved) ≡ true)
 
@@ -125,4 +125,4 @@ pub record LayerNamed : Type 0 where
   -- every other refusal names none
   pub others : (T : Tables) (c : Call) (e : Errno) → reply T c ≡ Refused e → (e .0 ≡ EACCES → ⊥) × (e .0 ≡ EXDEV → ⊥)
   -- the sets lie in what was judged
-  pub lies : (T : Tables) (c : Call) → Lies (judgedBy T c)
+  pub lies : (T : Tables) (c : Call) → Lies (verdictOn T c)
