@@ -214,10 +214,11 @@ static void take_file(int from, uint64_t directory, const char *name)
 		scan(entry);
 }
 
-/* Every right is handled, so the plug-in's thread may do what its policy grants and nothing else. */
+/* Every right and scope is handled, so the plug-in's thread may do what its policy grants and reach no other thread. */
 static void confine(struct plugin *plugin)
 {
-	const struct skein_ruleset_attr attr = { ALL_FILE_RIGHTS, SKEIN_NET_BIND_TCP | SKEIN_NET_CONNECT_TCP, 0 };
+	const struct skein_ruleset_attr attr = { ALL_FILE_RIGHTS, SKEIN_NET_BIND_TCP | SKEIN_NET_CONNECT_TCP,
+						 SKEIN_SCOPE_ABSTRACT_UNIX_SOCKET | SKEIN_SCOPE_SIGNAL };
 	const uint64_t ruleset = must("ruleset", skeinrabbit_create_ruleset(&tables, &attr, sizeof(attr), 0));
 	struct place place;
 

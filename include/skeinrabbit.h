@@ -8,9 +8,9 @@
  * number. Each comment below lists a call's refusals in the order in which they are tested. Before all of them, every call but
  * skeinrabbit_fresh answers -EIO if the tables are not sound. A number out of range counts as not live or not open.
  *
- * Requests and changes of the tree have a last argument `report`, which may be NULL. It is written with every answer: where a
- * layer refuses (EACCES, EXDEV) it says which layer and which rights, and none with every other answer. skeinrabbit_access also
- * says how many entries' rules it read.
+ * Requests about entries and ports and changes of the tree have a last argument `report`, which may be NULL. It is written with
+ * every answer: where a layer refuses (EACCES, EXDEV) it says which layer and which rights, and none with every other answer.
+ * skeinrabbit_access also says how many entries' rules it read.
  *
  * Any cells and any numbers are answered. A call is defined if
  * - every pointer is valid for what it points to (a whole struct skein_tables, `size` bytes), aligned for its type and not NULL.
@@ -108,7 +108,7 @@ struct skein_tables {
 #define SKEIN_NET_BIND_TCP (UINT64_C(1) << 0)
 #define SKEIN_NET_CONNECT_TCP (UINT64_C(1) << 1)
 
-/* Scopes, since level 6. */
+/* Scopes, since level 6: what skeinrabbit_abstract_socket and skeinrabbit_signal ask for. */
 #define SKEIN_SCOPE_ABSTRACT_UNIX_SOCKET (UINT64_C(1) << 0)
 #define SKEIN_SCOPE_SIGNAL (UINT64_C(1) << 1)
 
@@ -209,6 +209,8 @@ extern uint64_t skein_access(SKEIN_TABLE_PARAMETERS(const uint64_t), uint64_t th
 			     size_t report_length);
 extern uint64_t skein_port(SKEIN_TABLE_PARAMETERS(const uint64_t), uint64_t thread, uint64_t port, uint64_t rights, uint64_t *report,
 			   size_t report_length);
+extern uint64_t skein_signal(SKEIN_TABLE_PARAMETERS(const uint64_t), uint64_t thread, uint64_t target);
+extern uint64_t skein_abstract_socket(SKEIN_TABLE_PARAMETERS(const uint64_t), uint64_t thread, uint64_t target);
 extern uint64_t skein_create(SKEIN_TABLE_PARAMETERS(uint64_t), uint64_t thread, uint64_t directory, uint64_t kind, uint64_t *report,
 			     size_t report_length);
 extern uint64_t skein_remove(SKEIN_TABLE_PARAMETERS(uint64_t), uint64_t thread, uint64_t entry, uint64_t *report, size_t report_length);
@@ -386,6 +388,25 @@ static inline int64_t skeinrabbit_port(const struct skein_tables *t, uint64_t th
 	const uint64_t result = skein_port(SKEIN_TABLE_ARGUMENTS(t), thread, port, rights, cells, SKEIN_REPORT_CELLS);
 
 	return skeinrabbit_reported(result, cells, report);
+}
+
+/*
+ * Asks whether a thread may signal a thread: every layer of its domain that handles SKEIN_SCOPE_SIGNAL must also be one of the
+ * target's domain. So every thread may signal itself.
+ * ESRCH thread or target not live; EPERM some such layer is not the target's.
+ */
+static inline int64_t skeinrabbit_signal(const struct skein_tables *t, uint64_t thread, uint64_t target)
+{
+	return skeinrabbit_answer(skein_signal(SKEIN_TABLE_ARGUMENTS(t), thread, target));
+}
+
+/*
+ * Asks whether a thread may reach a thread's abstract UNIX socket: the same with SKEIN_SCOPE_ABSTRACT_UNIX_SOCKET.
+ * ESRCH thread or target not live; EPERM some such layer is not the target's.
+ */
+static inline int64_t skeinrabbit_abstract_socket(const struct skein_tables *t, uint64_t thread, uint64_t target)
+{
+	return skeinrabbit_answer(skein_abstract_socket(SKEIN_TABLE_ARGUMENTS(t), thread, target));
 }
 
 /*

@@ -85,6 +85,37 @@ static void tree_calls(struct skein_tables *t)
 	expect("remove", skeinrabbit_remove(t, 0, 4, NULL), 0);
 }
 
+/* Thread 1 has a layer that handles SKEIN_SCOPE_SIGNAL alone, thread 0 has none. */
+static void between_threads(struct skein_tables *t)
+{
+	expect("signal, the thread itself", skeinrabbit_signal(t, 1, 1), 0);
+	expect("signal, out of its scope", skeinrabbit_signal(t, 1, 0), -SKEIN_EPERM);
+	expect("signal, no layer", skeinrabbit_signal(t, 0, 1), 0);
+	expect("signal, target not live", skeinrabbit_signal(t, 1, 2), -SKEIN_ESRCH);
+	expect("signal, thread out of range", skeinrabbit_signal(t, SKEIN_MAX_THREADS, 1), -SKEIN_ESRCH);
+	expect("abstract_socket, another scope", skeinrabbit_abstract_socket(t, 1, 0), 0);
+	expect("abstract_socket, target not live", skeinrabbit_abstract_socket(t, 0, 2), -SKEIN_ESRCH);
+}
+
+/* A layer that handles SKEIN_SCOPE_ABSTRACT_UNIX_SOCKET alone, of thread 1 and its clone. */
+static void scoped_sockets(struct skein_tables *t)
+{
+	const struct skein_ruleset_attr attr = { 0, 0, SKEIN_SCOPE_ABSTRACT_UNIX_SOCKET };
+
+	expect("fresh", skeinrabbit_fresh(t, SKEIN_MAX_LEVEL), 0);
+	expect("set_no_new_privs", skeinrabbit_set_no_new_privs(t, 0), 0);
+	expect("create_ruleset", skeinrabbit_create_ruleset(t, &attr, sizeof(attr), 0), 0);
+	expect("clone", skeinrabbit_clone(t, 0), 1);
+	expect("restrict", skeinrabbit_restrict(t, 1, 0, 0), 0);
+	expect("clone", skeinrabbit_clone(t, 1), 2);
+	expect("abstract_socket, out of its scope", skeinrabbit_abstract_socket(t, 1, 0), -SKEIN_EPERM);
+	expect("abstract_socket, the same layer", skeinrabbit_abstract_socket(t, 1, 2), 0);
+	expect("signal, another scope", skeinrabbit_signal(t, 1, 0), 0);
+	t->system[0] = SKEIN_MAX_LEVEL + 1;
+	expect("signal, level 7", skeinrabbit_signal(t, 1, 0), -SKEIN_EIO);
+	expect("abstract_socket, level 7", skeinrabbit_abstract_socket(t, 1, 0), -SKEIN_EIO);
+}
+
 static void end_calls(struct skein_tables *t)
 {
 	const uint64_t *rules = NULL;
@@ -270,7 +301,9 @@ int main(void)
 	domain_calls(t);
 	requests(t);
 	tree_calls(t);
+	between_threads(t);
 	end_calls(t);
+	scoped_sockets(t);
 	denied_reports(t);
 	other_reports(t);
 	short_reports(t);

@@ -1,6 +1,7 @@
 // The entry points of fresh tables and of requests: each but fresh tests the tables first and answers EIO if they are not sound, then does the call. A refusal changes no cell.
 pub mod entries;
 pub mod ports;
+pub mod tasks;
 
 use access::errno::Reply;
 ghost use mathlib.Core.Path.{_≡_};

@@ -26,6 +26,8 @@ ghost use Rattle.domain.specs.Threads.{cloned, privsSet, adminSet};
 ghost use Rattle.domain_end.specs.End.{endCall};
 ghost use Rattle.fs_access.specs.Access.{accessCall, accessCount};
 ghost use Rattle.net.specs.Port.{portCall};
+ghost use Rattle.task.specs.Task.{taskCall};
+ghost use Rattle.task.specs.declared.Scope.the-variants.{AbstractSocket, Signal};
 ghost use Rattle.tree.specs.Create.{treeCreate, treeRemove};
 ghost use Rattle.tree.specs.Link.{treeLink};
 ghost use Rattle.tree.specs.Rename.{treeRename};
@@ -303,6 +305,38 @@ pub extern "C" fn skein_port(
     );
     report_denial(report, reply);
     number(reply)
+}
+
+#[no_mangle]
+pub extern "C" fn skein_signal(
+    system: &[u64],
+    entries: &[u64],
+    rulesets: &[u64],
+    layers: &[u64],
+    pool: &[u64],
+    threads: &[u64],
+    t: u64,
+    u: u64,
+) -> u64
+    ensures { λ answer. ⌜ Answers answer (after system entries rulesets layers pool threads) (taskCall (before system entries rulesets layers pool threads) t u Signal) ⌝ }
+{
+    number(broker::tasks::signal(system, entries, rulesets, layers, pool, threads, t, u))
+}
+
+#[no_mangle]
+pub extern "C" fn skein_abstract_socket(
+    system: &[u64],
+    entries: &[u64],
+    rulesets: &[u64],
+    layers: &[u64],
+    pool: &[u64],
+    threads: &[u64],
+    t: u64,
+    u: u64,
+) -> u64
+    ensures { λ answer. ⌜ Answers answer (after system entries rulesets layers pool threads) (taskCall (before system entries rulesets layers pool threads) t u AbstractSocket) ⌝ }
+{
+    number(broker::tasks::abstract_socket(system, entries, rulesets, layers, pool, threads, t, u))
 }
 
 #[no_mangle]

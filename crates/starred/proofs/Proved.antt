@@ -39,7 +39,7 @@ use Rattle.tree.specs.Moves.{needsFrom, needsTo, moveOf, linkMove, renameMove}
 use Rattle.tree.specs.Create.{createShape, createVerdict, createLater, treeCreateChecks, treeCreated, treeCreate}
 use Rattle.tree.specs.Link.{linkShape, linkVerdict, linkLater, linkChecks, linked, treeLink}
 use Rattle.tree.specs.Rename.{renameNames, renameShape, renameVerdict, renameLater, renameChecks, dropped, moved, treeRename}
-use Rattle.theorems.specs.Calls.{Call, create-ruleset, close-ruleset, add-path-rule, add-port-rule, restrict, layer-rules, clone, end-thread, set-no-new-privs, set-admin, access, port, create, remove, link, rename, exchange, outcomeOf, after, afterAll}
+use Rattle.theorems.specs.Calls.{Call, create-ruleset, close-ruleset, add-path-rule, add-port-rule, restrict, layer-rules, clone, end-thread, set-no-new-privs, set-admin, access, port, task, create, remove, link, rename, exchange, outcomeOf, after, afterAll}
 use Rattle.theorems.proofs.Kept.{kept, never-unsound}
 use Rattle.starred.specs.Starred.{Case, cases, given, Starred}
 
@@ -63,6 +63,7 @@ played T (clone t) = outcomeOf T (clone t)
 played T (end-thread t) = outcomeOf T (end-thread t)
 played T (set-admin t on) = outcomeOf T (set-admin t on)
 played T (port t p m) = outcomeOf T (port t p m)
+played T (task t u s) = outcomeOf T (task t u s)
 played T (remove t e) = outcomeOf T (remove t e)
 played T (exchange t s d x) = outcomeOf T (exchange t s d x)
 
@@ -90,6 +91,7 @@ same T (clone t) h = refl
 same T (end-thread t) h = refl
 same T (set-admin t on) h = refl
 same T (port t p m) h = refl
+same T (task t u s) h = refl
 same T (remove t e) h = refl
 same T (exchange t s d x) h = refl
 

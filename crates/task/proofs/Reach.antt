@@ -38,11 +38,13 @@ reaches-grown ls s D E h = ap not (none-leaves ls (scopeRight s) E D h)
 pub reaches-self : (ls : List ℕ) (s : Scope) (D : List ℕ) → reaches ls s D D ≡ true
 reaches-self ls s D = reaches-grown ls s D D (λ l m. m)
 
--- "as a thread's domain grows, those threads .. that it can reach never become more": what the grown domain D′ reaches, D reached
-pub reaches-fewer : (ls : List ℕ) (s : Scope) (D D′ E : List ℕ) → ((l : ℕ) → elem l D ≡ true → elem l D′ ≡ true) → reaches ls s D′ E ≡ true → reaches ls s D E ≡ true
-unfolding reaches
-reaches-fewer ls s D D′ E h r = split (any (escapes ls (scopeRight s) E) D)
+-- "as a thread's domain grows, those threads .. that it can reach never become more": what the grown domain D′ reaches, D reached, the scopes of its layers being the same
+pub reaches-fewer : (ls ls′ : List ℕ) (s : Scope) (D D′ E : List ℕ) → ((l : ℕ) → elem l D ≡ true → layerScope ls′ l ≡ layerScope ls l) → ((l : ℕ) → elem l D ≡ true → elem l D′ ≡ true)
+    → reaches ls′ s D′ E ≡ true → reaches ls s D E ≡ true
+unfolding reaches escapes
+reaches-fewer ls ls′ s D D′ E same grown r = split (any (escapes ls (scopeRight s) E) D)
     (λ q.
     let f = any-find (escapes ls (scopeRight s) E) D q in
-    clash (any (escapes ls (scopeRight s) E) D′) (any-at (escapes ls (scopeRight s) E) D′ (f .0) (h (f .0) (f .1)) (f .2)) (not-true _ r))
+    let e : escapes ls′ (scopeRight s) E (f .0) ≡ true = rw (same (f .0) (f .1)) (f .2) in
+    clash (any (escapes ls′ (scopeRight s) E) D′) (any-at (escapes ls′ (scopeRight s) E) D′ (f .0) (grown (f .0) (f .1)) e) (not-true _ r))
     (λ q. ap not q)

@@ -1,13 +1,17 @@
 -- A walk along a chain of layers that looks for one that passes a test. Assumes nothing.
 use mathlib.Core.Path.{_≡_, refl, sym, ap, _∙_}
-use mathlib.Core.Bool.{Bool, true, false, _||_}
+use mathlib.Core.Bool.{Bool, true, false, not, _||_}
 use mathlib.Core.List.{List, [], _∷_}
 use Prim.Native.Nat.{ℕ, zero, suc, _-_}
 use native.Mathlib.Numerals.{sub-one}
 use lib.Dec.{eqb}
 use Rattle.laws.specs.Tests.{any, elem}
+use Rattle.access.specs.Limits.{maxDomain}
+use Rattle.tables.specs.Tables.{youngest}
 use Rattle.tables.specs.Layers.{layerParent}
-use Rattle.judge.specs.Domain.{chain}
+use Rattle.judge.specs.Domain.{chain, domain}
+use Rattle.task.specs.declared.Scope.{Scope}
+use Rattle.task.specs.Task.{scopeRight, escapes, reaches}
 
 module _ (ls : List ℕ) (p : ℕ → Bool) where
   any-end : (n y : ℕ) → y ≡ 0 → any p (chain ls n y) ≡ false
@@ -44,3 +48,9 @@ pub elem-any : (l : ℕ) (D : List ℕ) → elem l D ≡ any (λ k. eqb l k) D
 unfolding elem any
 elem-any l [] = refl
 elem-any l (k ∷ D) = ap (λ (b : Bool). eqb l k || b) (elem-any l D)
+
+-- from the youngest layers to the domains
+pub leaves-none : (ls ts : List ℕ) (t u : ℕ) (s : Scope) {r y z : ℕ} {b : Bool} → r ≡ scopeRight s → y ≡ youngest ts t → z ≡ youngest ts u
+    → b ≡ any (escapes ls r (chain ls maxDomain z)) (chain ls maxDomain y) → not b ≡ reaches ls s (domain ls ts t) (domain ls ts u)
+unfolding reaches domain
+leaves-none ls ts t u s p q v k = rw (← p, ← q, ← v) (ap not k)

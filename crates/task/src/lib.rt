@@ -16,8 +16,8 @@ ghost use Rattle.access.specs.Limits.{maxDomain};
 ghost use Rattle.tables.specs.Tables.{before, after};
 ghost use Rattle.tables.specs.Layers.{layerScope};
 ghost use Rattle.tables.specs.Outcome.{outcome, answer};
-ghost use Rattle.judge.specs.Domain.{chain};
-ghost use Rattle.task.specs.Task.{scopeRight, escapes, taskChecks};
+ghost use Rattle.judge.specs.Domain.{chain, domain};
+ghost use Rattle.task.specs.Task.{scopeRight, escapes, reaches, taskChecks};
 
 // What a request between threads is for.
 pub enum Scope {
@@ -71,8 +71,8 @@ fn any_leaves(layers: &[u64], scope: Rights, y: u64, z: u64) -> bool
     ensures { λ r. ⌜ r ≡ any (escapes (now (layers .entry)) (scope .0) (chain (now (layers .entry)) maxDomain z)) (chain (now (layers .entry)) maxDomain y) ⌝ }
 {
     let mut at = y;
-    let mut n = MAX_DOMAIN;
-    while n > 0 {
+    let mut left = MAX_DOMAIN;
+    while left > 0 {
         if at == 0 {
             return false;
         }
@@ -80,9 +80,21 @@ fn any_leaves(layers: &[u64], scope: Rights, y: u64, z: u64) -> bool
             return true;
         }
         at = layer_parent(layers, at - 1);
-        n -= 1;
+        left -= 1;
     }
     false
+}
+
+// Every layer of thread `t`'s domain that handles the scope is in thread `u`'s domain.
+fn may_reach(layers: &[u64], threads: &[u64], t: u64, u: u64, scope: Scope) -> bool
+    ensures { λ r. ⌜ r ≡ reaches (now (layers .entry)) scope (domain (now (layers .entry)) (now (threads .entry)) t) (domain (now (layers .entry)) (now (threads .entry)) u) ⌝ }
+{
+    !any_leaves(
+        layers,
+        scope.right(),
+        youngest_of(threads, t),
+        youngest_of(threads, u),
+    )
 }
 
 fn task_checks(layers: &[u64], threads: &[u64], t: u64, u: u64, scope: Scope) -> u64
@@ -94,12 +106,7 @@ fn task_checks(layers: &[u64], threads: &[u64], t: u64, u: u64, scope: Scope) ->
     if !thread_live(threads, u) {
         return Errno::ESRCH.0;
     }
-    if any_leaves(
-        layers,
-        scope.right(),
-        youngest_of(threads, t),
-        youngest_of(threads, u),
-    ) {
+    if !may_reach(layers, threads, t, u, scope) {
         return Errno::EPERM.0;
     }
     0

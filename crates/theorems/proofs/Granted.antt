@@ -12,10 +12,10 @@ use Rattle.laws.proofs.Tests.{any-find, any-at}
 use Rattle.laws.proofs.Refusals.{passed, join-go}
 use Rattle.access.specs.Rights.{has, allFs, fileSet}
 use Rattle.access.proofs.Laws.{within-has}
-use Rattle.access.specs.Errno.{EACCES}
+use Rattle.access.specs.Errno.{EPERM, EACCES}
 use Rattle.access.specs.declared.errno.Reply.{Reply}
 use Rattle.access.specs.declared.errno.Reply.the-variants.{Done}
-use Rattle.tables.specs.Tables.{Tables, isDir, pastFileSet, portRule}
+use Rattle.tables.specs.Tables.{Tables, isDir, pastFileSet, portRule, threadLive}
 use Rattle.tables.specs.Layers.{Layer, layerAt}
 use Rattle.tables.specs.Outcome.{Outcome, outcome, errorOf, named, naming}
 use Rattle.judge.specs.Rules.{rightsOn}
@@ -28,42 +28,48 @@ use Rattle.sound.proofs.Calls.{call-refused, call-done}
 use Rattle.fs.specs.Move.{entryRights}
 use Rattle.fs_access.specs.Access.{accessNames, accessMask, accessChecks, accessCall}
 use Rattle.net.specs.Port.{portForm, portChecks, portCall}
+use Rattle.task.specs.declared.Scope.{Scope}
+use Rattle.task.specs.Task.{taskChecks, taskCall}
+use Rattle.task.proofs.Reach.{reaches-self}
 use Rattle.theorems.specs.Calls.{outcomeOf}
-use Rattle.theorems.specs.Claim.{domainOf, holds, portGrants}
+use Rattle.theorems.specs.Claim.{domainOf, holds, portGrants, mayReach}
 use Rattle.theorems.specs.Granted.{Judged, RightsAnswered}
 use Rattle.theorems.proofs.Naming.{error-named}
 
--- the reply of a request whose last check is all that can refuse
-pub data Answered (r : Reply) : Bool → Type 0 where
-  denying : errorOf r ≡ EACCES → Answered r true
-  granting : r ≡ Done 0 → Answered r false
+-- the reply of a request whose last check, with the error n, is all that can refuse
+pub data Answered (n : ℕ) (r : Reply) : Bool → Type 0 where
+  denying : errorOf r ≡ n → Answered n r true
+  granting : r ≡ Done 0 → Answered n r false
 
-module _ (a b : ℕ → ℕ) (D : List ℕ) where
-  last-check : (T : Tables) (cs : List Check) (v : Bool) → sound T ≡ true → first cs ≡ cond v EACCES 0 → Answered (naming a b D (call T cs (outcome (Done 0) T)) .reply) v
-  unfolding named
+module _ (n : ℕ) (fails : 0 ≡ n → ⊥) where
+  last-check : (T : Tables) (cs : List Check) (v : Bool) → sound T ≡ true → first cs ≡ cond v n 0 → Answered n (call T cs (outcome (Done 0) T) .reply) v
   last-check T cs true h k =
-      let o = ap (λ (o : Outcome). o .reply) (call-refused T cs (outcome (Done 0) T) (sym h) refl (sym k) (λ z. omega arith)) in
-      denying (error-named a b D (call T cs (outcome (Done 0) T) .reply) ∙ ap errorOf (sym o))
+      denying (ap (λ (o : Outcome). errorOf (o .reply)) (sym (call-refused T cs (outcome (Done 0) T) (sym h) refl (sym k) (λ z. fails (sym z)))))
   last-check T cs false h k =
-      let o = ap (λ (o : Outcome). o .reply) (call-done T cs (outcome (Done 0) T) (sym h) refl (sym k) refl) in
-      granting (ap (named a b D) (sym o))
+      granting (ap (λ (o : Outcome). o .reply) (sym (call-done T cs (outcome (Done 0) T) (sym h) refl (sym k) refl)))
 
--- a reply by a test that fails exactly if G
-judged : {r : Reply} {G : Type 0} (b : Bool) → Answered r b → (G → b ≡ false) → (b ≡ false → G) → Judged r G
-judged true (denying h) f g =
-    record {
-      granted = λ x. clash true refl (f x);
-      only = λ z. absurd (let n : _≡_ {A = ℕ} 0 EACCES = sym (ap errorOf z) ∙ h in omega arith);
-      denied = λ n. h;
-      lacked = λ z x. clash true refl (f x);
-    }
-judged false (granting h) f g =
-    record {
-      granted = λ x. h;
-      only = λ z. g refl;
-      denied = λ n. absurd (n (g refl));
-      lacked = λ z. absurd (let n : _≡_ {A = ℕ} 0 EACCES = sym (ap errorOf h) ∙ z in omega arith);
-    }
+  -- a reply by a test that fails exactly if G
+  judged : {r : Reply} {G : Type 0} (b : Bool) → Answered n r b → (G → b ≡ false) → (b ≡ false → G) → Judged n r G
+  judged true (denying h) f g =
+      record {
+        granted = λ x. clash true refl (f x);
+        only = λ z. absurd (fails (sym (ap errorOf z) ∙ h));
+        denied = λ n. h;
+        lacked = λ z x. clash true refl (f x);
+      }
+  judged false (granting h) f g =
+      record {
+        granted = λ x. h;
+        only = λ z. g refl;
+        denied = λ n. absurd (n (g refl));
+        lacked = λ z. absurd (fails (sym (ap errorOf h) ∙ z));
+      }
+
+-- the same where a layer is named
+named-check : (n : ℕ) (a b : ℕ → ℕ) (D : List ℕ) (o : Outcome) (v : Bool) → Answered n (o .reply) v → Answered n (naming a b D o .reply) v
+unfolding named
+named-check n a b D o true (denying h) = denying (error-named a b D (o .reply) ∙ h)
+named-check n a b D o false (granting h) = granting (ap (named a b D) h)
 
 -- ---- layers D, where layer l handles right i if h l i and grants it if g l i; b: one of them denies a right of the mask m
 module _ (D : List ℕ) (m : ℕ) (h g : ℕ → ℕ → Bool) (b : Bool)
@@ -144,9 +150,26 @@ module _ (T : Tables) (t p m : ℕ) (form : first (portForm (T .threads) t p m) 
   port-all = each-granted (domainOf T t) m (λ l i. has (layerAt (T .layers) (T .pool) l .net) i) (λ l i. has (rightsOn (layerAt (T .layers) (T .pool) l .rules) portRule p) i)
       lacking-port (port-lacks-none (T .layers) (T .pool) (domainOf T t) p m) (port-lacks-some (T .layers) (T .pool) (domainOf T t) p m)
 
+-- ---- a thread
+self-reached : (T : Tables) (t : ℕ) (i : Scope) → mayReach T i t t ≡ true
+unfolding mayReach
+self-reached T t i = reaches-self (T .layers) i (domainOf T t)
+
+module _ (T : Tables) (t u : ℕ) (i : Scope) (vt : threadLive (T .threads) t ≡ true) (vu : threadLive (T .threads) u ≡ true) where
+  task-first : first (taskChecks (T .layers) (T .threads) t u i) ≡ cond (not (mayReach T i t u)) EPERM 0
+  unfolding taskChecks first mayReach
+  task-first = rw (vt, vu) refl
+
 pub rights-answered : RightsAnswered
-unfolding outcomeOf accessCall portCall
-rights-answered = record {
-  access = λ T t e m h a b. judged (lacking T t e m a b) (last-check _ _ _ T (accessChecks T t e m) (lacking T t e m a b) h (access-first T t e m a b)) (access-all T t e m a b) (access-held T t e m a b);
-  ports = λ T t p m h a. judged (lacking-port T t p m a) (last-check _ _ _ T (portChecks T t p m) (lacking-port T t p m a) h (port-first T t p m a)) (port-all T t p m a) (port-held T t p m a);
-}
+unfolding outcomeOf accessCall portCall taskCall
+rights-answered =
+    let eacces : (0 ≡ EACCES → ⊥) = λ z. omega arith in
+    let eperm : (0 ≡ EPERM → ⊥) = λ z. omega arith in
+    let asked : (T : Tables) (t u : ℕ) (i : Scope) → sound T ≡ true → threadLive (T .threads) t ≡ true → threadLive (T .threads) u ≡ true → Judged EPERM (taskCall T t u i .reply) (mayReach T i t u ≡ true) =
+    λ T t u i h a b. judged EPERM eperm (not (mayReach T i t u)) (last-check EPERM eperm T (taskChecks (T .layers) (T .threads) t u i) _ h (task-first T t u i a b)) (not-of-true (mayReach T i t u)) (not-false (mayReach T i t u)) in
+    record {
+      access = λ T t e m h a b. judged EACCES eacces (lacking T t e m a b) (named-check EACCES _ _ _ (call T (accessChecks T t e m) (outcome (Done 0) T)) _ (last-check EACCES eacces T (accessChecks T t e m) (lacking T t e m a b) h (access-first T t e m a b))) (access-all T t e m a b) (access-held T t e m a b);
+      ports = λ T t p m h a. judged EACCES eacces (lacking-port T t p m a) (named-check EACCES _ _ _ (call T (portChecks T t p m) (outcome (Done 0) T)) _ (last-check EACCES eacces T (portChecks T t p m) (lacking-port T t p m a) h (port-first T t p m a))) (port-all T t p m a) (port-held T t p m a);
+      tasks = asked;
+      self = λ T t i h a. asked T t t i h a a .granted (self-reached T t i);
+    }

@@ -12,6 +12,7 @@ use Rattle.sound.proofs.Fresh.{fresh-sound}
 use Rattle.domain.specs.Layer.{layerRead}
 use Rattle.fs_access.specs.Access.{accessCall}
 use Rattle.net.specs.Port.{portCall}
+use Rattle.task.specs.Task.{taskCall}
 use Rattle.kept_rulesets.proofs.Create.{kept-created, kept-closed}
 use Rattle.kept_rulesets.proofs.Add.{kept-path-added, kept-port-added}
 use Rattle.kept_domains.proofs.Marks.{kept-cloned, kept-privs-set, kept-admin-set}
@@ -20,10 +21,10 @@ use Rattle.kept_end.proofs.End.{kept-ended}
 use Rattle.kept_tree.proofs.Fill as fill
 use Rattle.kept_tree.proofs.Clear.{kept-removed}
 use Rattle.kept_tree.proofs.Move.{kept-renamed, kept-exchanged}
-use Rattle.theorems.specs.Calls.{Call, create-ruleset, close-ruleset, add-path-rule, add-port-rule, restrict, layer-rules, clone, end-thread, set-no-new-privs, set-admin, access, port, create, remove, link, rename, exchange, outcomeOf, after, afterAll}
+use Rattle.theorems.specs.Calls.{Call, create-ruleset, close-ruleset, add-path-rule, add-port-rule, restrict, layer-rules, clone, end-thread, set-no-new-privs, set-admin, access, port, task, create, remove, link, rename, exchange, outcomeOf, after, afterAll}
 
 pub kept : (T : Tables) (c : Call) → sound T ≡ true → sound (after T c) ≡ true
-unfolding outcomeOf layerRead accessCall portCall
+unfolding outcomeOf layerRead accessCall portCall taskCall
 kept T (create-ruleset bs flags) h = kept-created T bs flags h
 kept T (close-ruleset r) h = kept-closed T r h
 kept T (add-path-rule r e rights flags) h = kept-path-added T r e rights flags h
@@ -36,6 +37,7 @@ kept T (set-no-new-privs t) h = kept-privs-set T t h
 kept T (set-admin t on) h = kept-admin-set T t on h
 kept T (access t e m) h = kept-call T _ _ (λ z. h) h
 kept T (port t p m) h = kept-call T _ _ (λ z. h) h
+kept T (task t u s) h = kept-call T _ _ (λ z. h) h
 kept T (create t d k) h = fill.kept-created T t d k h
 kept T (remove t e) h = kept-removed T t e h
 kept T (link t s d) h = fill.kept-linked T t s d h

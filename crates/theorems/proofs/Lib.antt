@@ -4,6 +4,7 @@ pub mod Naming
 pub mod Chains
 pub mod Stays
 pub mod Ports
+pub mod Reach
 pub mod Links
 pub mod Shut
 pub mod Edits

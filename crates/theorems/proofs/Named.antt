@@ -45,13 +45,14 @@ use Rattle.fs.proofs.Crossed.{crosses-any}
 use Rattle.fs.specs.declared.verdict.Move.{Move}
 use Rattle.fs_access.specs.Access.{accessNames, accessMask, accessChecks, accessCall}
 use Rattle.net.specs.Port.{portForm, portChecks, portCall}
+use Rattle.task.specs.Task.{taskChecks, taskCall}
 use Rattle.tree.specs.declared.Replaced.{Replaced}
 use Rattle.tree.specs.Moves.{linkMove, renameMove, exchangeMove}
 use Rattle.tree.specs.Create.{createShape, createVerdict, createLater, treeCreateChecks, treeCreate, removeShape, removeVerdict, removeLater, removeChecks, treeRemove}
 use Rattle.tree.specs.Link.{linkShape, linkVerdict, linkLater, linkChecks, treeLink}
 use Rattle.tree.specs.Rename.{renameNames, renameShape, renameVerdict, renameLater, renameChecks, treeRename}
 use Rattle.tree.specs.Exchange.{exchangeNames, exchangeShape, exchangeVerdict, exchangeChecks, treeExchange}
-use Rattle.theorems.specs.Calls.{Call, create-ruleset, close-ruleset, add-path-rule, add-port-rule, restrict, layer-rules, clone, end-thread, set-no-new-privs, set-admin, access, port, create, remove, link, rename, exchange, outcomeOf, caller, reply}
+use Rattle.theorems.specs.Calls.{Call, create-ruleset, close-ruleset, add-path-rule, add-port-rule, restrict, layer-rules, clone, end-thread, set-no-new-privs, set-admin, access, port, task, create, remove, link, rename, exchange, outcomeOf, caller, reply}
 use Rattle.theorems.specs.Claim.{domainOf}
 use Rattle.theorems.specs.Named.{refusalsOf, verdictOn, ByVerdict, Lies, Youngest, here, older, LayerNamed}
 use Rattle.theorems.proofs.Naming.{blame-error, error-named}
@@ -195,7 +196,7 @@ module _ (T : Tables) (cs : List Check) (done : Outcome) (n : ℕ) (dn : done .r
 
 -- ---- every call
 number : (T : Tables) (c : Call) → errorOf (reply T c) ≡ first (not (sound T) ⇒ EIO ∷ refusalsOf T c)
-unfolding outcomeOf created createDone closed closeDone pathAdded portAdded addDone restrictCall restrictDone cloned cloneDone endCall endDone privsSet adminSet markDone layerRead accessCall portCall treeCreate treeRemove treeLink treeRename treeExchange refusalsOf
+unfolding outcomeOf created createDone closed closeDone pathAdded portAdded addDone restrictCall restrictDone cloned cloneDone endCall endDone privsSet adminSet markDone layerRead accessCall portCall taskCall treeCreate treeRemove treeLink treeRename treeExchange refusalsOf
 number T (create-ruleset bs flags) = call-number T (createChecks T bs flags) _ _ refl
 number T (close-ruleset r) = call-number T (closeChecks T r) _ _ refl
 number T (add-path-rule r e rights flags) = call-number T (addPathChecks T r e rights flags) _ _ refl
@@ -208,6 +209,7 @@ number T (set-no-new-privs t) = call-number T (markChecks T t) _ _ refl
 number T (set-admin t on) = call-number T (markChecks T t) _ _ refl
 number T (access t e m) = named-number T (accessChecks T t e m) _ _ refl t _ _
 number T (port t p m) = named-number T (portChecks T t p m) _ _ refl t _ _
+number T (task t u i) = call-number T (taskChecks (T .layers) (T .threads) t u i) _ _ refl
 number T (create t d k) = named-number T (treeCreateChecks T t d k) _ _ refl t _ _
 number T (remove t e) = named-number T (removeChecks T t e) _ _ refl t _ _
 number T (link t a d) = named-number T (linkChecks T t a d) _ _ refl t _ _
@@ -215,7 +217,7 @@ number T (rename t a d x) = named-number T (renameChecks T t a d x) _ _ refl t _
 number T (exchange t a d x) = named-number T (exchangeChecks T t a d x) _ _ refl t _ _
 
 told : (T : Tables) (c : Call) (e : Errno) (l : ℕ) (s : Rights) → reply T c ≡ Denied e l s → ByVerdict T c e l s
-unfolding outcomeOf created createDone closed closeDone pathAdded portAdded addDone restrictCall restrictDone cloned cloneDone endCall endDone privsSet adminSet markDone layerRead accessCall portCall treeCreate treeRemove treeLink treeRename treeExchange verdictOn caller first accessChecks accessNames portChecks portForm
+unfolding outcomeOf created createDone closed closeDone pathAdded portAdded addDone restrictCall restrictDone cloned cloneDone endCall endDone privsSet adminSet markDone layerRead accessCall portCall taskCall treeCreate treeRemove treeLink treeRename treeExchange verdictOn caller first accessChecks accessNames portChecks portForm
     treeCreateChecks createShape removeChecks removeShape linkChecks linkShape renameChecks renameNames exchangeChecks exchangeNames
 told T (create-ruleset bs flags) e l s h = plain-denied T (createChecks T bs flags) _ _ refl h
 told T (close-ruleset r) e l s h = plain-denied T (closeChecks T r) _ _ refl h
@@ -229,6 +231,7 @@ told T (set-no-new-privs t) e l s h = plain-denied T (markChecks T t) _ _ refl h
 told T (set-admin t on) e l s h = plain-denied T (markChecks T t) _ _ refl h
 told T (access t x m) e l s h = record { named = named-denied T (accessChecks T t x m) _ _ refl t _ _ h .2; below = named-below T (accessChecks T t x m) _ _ refl t _ _ (λ q. rw q refl) h }
 told T (port t p m) e l s h = record { named = named-denied T (portChecks T t p m) _ _ refl t _ _ h .2; below = named-below T (portChecks T t p m) _ _ refl t _ _ (λ q. rw q refl) h }
+told T (task t u i) e l s h = plain-denied T (taskChecks (T .layers) (T .threads) t u i) _ _ refl h
 told T (create t d k) e l s h = record { named = named-denied T (treeCreateChecks T t d k) _ _ refl t _ _ h .2; below = named-below T (treeCreateChecks T t d k) _ _ refl t _ _ (λ q. rw q refl) h }
 told T (remove t x) e l s h = record { named = named-denied T (removeChecks T t x) _ _ refl t _ _ h .2; below = named-below T (removeChecks T t x) _ _ refl t _ _ (λ q. rw q refl) h }
 told T (link t a d) e l s h = record { named = named-denied T (linkChecks T t a d) _ _ refl t _ _ h .2; below = named-below T (linkChecks T t a d) _ _ refl t _ _ (λ q. rw q refl) h }
@@ -237,7 +240,7 @@ told T (exchange t a d x) e l s h = record { named = named-denied T (exchangeChe
 
 -- a list without the numbers of a verdict, but for those that fail
 others : (T : Tables) (c : Call) (e : Errno) → reply T c ≡ Refused e → (e .0 ≡ EACCES → ⊥) × (e .0 ≡ EXDEV → ⊥)
-unfolding outcomeOf created createDone closed closeDone pathAdded portAdded addDone restrictCall restrictDone cloned cloneDone endCall endDone privsSet adminSet markDone layerRead accessCall portCall treeCreate treeRemove treeLink treeRename treeExchange createChecks createForm createMasks closeChecks addPathChecks addPortChecks addForm pathForm rulePortForm restrictChecks restrictForm restrictRoom layerChecks cloneChecks endChecks markChecks
+unfolding outcomeOf created createDone closed closeDone pathAdded portAdded addDone restrictCall restrictDone cloned cloneDone endCall endDone privsSet adminSet markDone layerRead accessCall portCall taskCall treeCreate treeRemove treeLink treeRename treeExchange createChecks createForm createMasks closeChecks addPathChecks addPortChecks addForm pathForm rulePortForm restrictChecks restrictForm restrictRoom layerChecks cloneChecks endChecks markChecks taskChecks
     accessChecks accessNames accessMask lacks layerLacks portChecks portForm portLacks layerPortLacks
     treeCreateChecks createShape createVerdict createLater removeChecks removeShape removeVerdict removeLater
     linkChecks linkShape linkVerdict linkLater renameChecks renameNames renameShape renameVerdict renameLater exchangeChecks exchangeNames exchangeShape exchangeVerdict verdict layerDenies
@@ -253,6 +256,7 @@ others T (set-no-new-privs t) e h = (plain-refused T (markChecks T t) _ _ refl E
 others T (set-admin t on) e h = (plain-refused T (markChecks T t) _ _ refl EACCES (λ z. omega arith) tt (λ z. omega arith) h, plain-refused T (markChecks T t) _ _ refl EXDEV (λ z. omega arith) tt (λ z. omega arith) h)
 others T (access t x m) e h = named-refused T (accessChecks T t x m) _ _ refl t _ _ (λ q. (q, tt)) (λ q. tt) h
 others T (port t p m) e h = named-refused T (portChecks T t p m) _ _ refl t _ _ (λ q. (q, tt)) (λ q. tt) h
+others T (task t u i) e h = (plain-refused T (taskChecks (T .layers) (T .threads) t u i) _ _ refl EACCES (λ z. omega arith) tt (λ z. omega arith) h, plain-refused T (taskChecks (T .layers) (T .threads) t u i) _ _ refl EXDEV (λ z. omega arith) tt (λ z. omega arith) h)
 others T (create t d k) e h = named-refused T (treeCreateChecks T t d k) _ _ refl t _ _ (λ q. (q, tt)) (λ q. tt) h
 others T (remove t x) e h = named-refused T (removeChecks T t x) _ _ refl t _ _ (λ q. (q, tt)) (λ q. tt) h
 others T (link t a d) e h = named-refused T (linkChecks T t a d) _ _ refl t _ _ (λ q. (q, tt)) (λ q. (sym (crosses-any T (linkMove (T .entries) a d) (domainOf T t)) ∙ q, tt)) h
@@ -340,6 +344,7 @@ lies T (set-no-new-privs t) = nothing-lies
 lies T (set-admin t on) = nothing-lies
 lies T (access t e m) = lies-at _ m (λ l. missing-within (T .entries) (layerAt (T .layers) (T .pool) l) e m)
 lies T (port t p m) = lies-at _ m (λ l. port-within (layerAt (T .layers) (T .pool) l) p m)
+lies T (task t u i) = nothing-lies
 lies T (create t d k) = lies-at _ (makeOf (kindOf k)) (λ l. missing-within (T .entries) (layerAt (T .layers) (T .pool) l) d (makeOf (kindOf k)))
 lies T (remove t e) = let m = removeOf (kindOf (kind (T .entries) e)) in lies-at _ m (λ l. missing-within (T .entries) (layerAt (T .layers) (T .pool) l) (parent (T .entries) e) m)
 lies T (link t s d) = move-lies T (linkMove (T .entries) s d)

@@ -34,6 +34,7 @@ use Rattle.domain.specs.Threads.{freeThread, cloneChecks, copiedThread, heldMor
 use Rattle.domain.specs.Layer.{layerRead}
 use Rattle.fs_access.specs.Access.{accessCall}
 use Rattle.net.specs.Port.{portCall}
+use Rattle.task.specs.Task.{taskCall}
 use Rattle.tree.specs.Create.{treeCreated, treeCreate, treeRemove}
 use Rattle.tree.specs.Link.{treeLink}
 use Rattle.tree.specs.Rename.{treeRename}
@@ -48,7 +49,7 @@ use Rattle.kept_domains.proofs.Layers.{newLayers, newPool, new-other, new-paren
 use Rattle.kept_domains.proofs.Restrict.{Allowed, allowed, record-free, unheld, unnamed, has, same-parent}
 use Rattle.kept_end.proofs.Put.{domain-in-use}
 use Rattle.kept_end.proofs.End.{ended-lives, ended-domain, ended-layer, end-live}
-use Rattle.theorems.specs.Calls.{Call, create-ruleset, close-ruleset, add-path-rule, add-port-rule, restrict, layer-rules, clone, end-thread, set-no-new-privs, set-admin, access, port, create, remove, link, rename, exchange, outcomeOf, after, reply, afterAll, isDone, wouldEnd, ends}
+use Rattle.theorems.specs.Calls.{Call, create-ruleset, close-ruleset, add-path-rule, add-port-rule, restrict, layer-rules, clone, end-thread, set-no-new-privs, set-admin, access, port, task, create, remove, link, rename, exchange, outcomeOf, after, reply, afterAll, isDone, wouldEnd, ends}
 use Rattle.theorems.specs.Claim.{domainOf, Grown, Lives}
 use Rattle.theorems.proofs.Naming.{done-named}
 use Rattle.theorems.proofs.Chains.{chain-less}
@@ -242,7 +243,7 @@ end-stays T t u h z v e =
 
 -- ---- every call
 pub stays : (T : Tables) (c : Call) (v : ℕ) → threadLive (T .threads) v ≡ true → ends T c v ≡ false → Stays T (after T c) v
-unfolding outcomeOf created createDone closed closeDone pathAdded portAdded addDone restrictCall restrictDone cloned endCall privsSet adminSet layerRead accessCall portCall treeCreate treeCreated treeRemove treeLink treeRename treeExchange
+unfolding outcomeOf created createDone closed closeDone pathAdded portAdded addDone restrictCall restrictDone cloned endCall privsSet adminSet layerRead accessCall portCall taskCall treeCreate treeCreated treeRemove treeLink treeRename treeExchange
 stays T (create-ruleset bs flags) v w keeps = call-stays T _ _ v (stays-self T v w) (λ h z. stays-alone T _ v w refl refl refl)
 stays T (close-ruleset r) v w keeps = call-stays T _ _ v (stays-self T v w) (λ h z. stays-alone T _ v w refl refl refl)
 stays T (add-path-rule r e rights flags) v w keeps = call-stays T _ _ v (stays-self T v w) (λ h z. stays-alone T _ v w refl refl refl)
@@ -255,6 +256,7 @@ stays T (set-no-new-privs t) v w keeps = call-stays T _ _ v (stays-self T v w) (
 stays T (set-admin t on) v w keeps = call-stays T _ _ v (stays-self T v w) (λ h z. mark-stays T t 3 _ v w (omega arith) (omega arith))
 stays T (access t e m) v w keeps = call-stays T _ _ v (stays-self T v w) (λ h z. stays-self T v w)
 stays T (port t p m) v w keeps = call-stays T _ _ v (stays-self T v w) (λ h z. stays-self T v w)
+stays T (task t u i) v w keeps = call-stays T _ _ v (stays-self T v w) (λ h z. stays-self T v w)
 stays T (create t d k) v w keeps = call-stays T _ _ v (stays-self T v w) (λ h z. stays-alone T _ v w refl refl refl)
 stays T (remove t e) v w keeps = call-stays T _ _ v (stays-self T v w) (λ h z. stays-alone T _ v w refl refl refl)
 stays T (link t s d) v w keeps = call-stays T _ _ v (stays-self T v w) (λ h z. stays-alone T _ v w refl refl refl)
@@ -263,7 +265,7 @@ stays T (exchange t s d x) v w keeps = call-stays T _ _ v (stays-self T v w) (λ
 
 -- a refusal "changes no cell"
 pub refused-same : (T : Tables) (c : Call) → isDone (reply T c) ≡ false → after T c ≡ T
-unfolding outcomeOf created createDone closed closeDone pathAdded portAdded addDone restrictCall restrictDone cloned cloneDone endCall endDone privsSet adminSet markDone layerRead accessCall portCall treeCreate treeRemove treeLink treeRename treeExchange
+unfolding outcomeOf created createDone closed closeDone pathAdded portAdded addDone restrictCall restrictDone cloned cloneDone endCall endDone privsSet adminSet markDone layerRead accessCall portCall taskCall treeCreate treeRemove treeLink treeRename treeExchange
 refused-same T (create-ruleset bs flags) h = call-same T _ _ _ refl h
 refused-same T (close-ruleset r) h = call-same T _ _ _ refl h
 refused-same T (add-path-rule r x rights flags) h = call-same T _ _ _ refl h
@@ -276,6 +278,7 @@ refused-same T (set-no-new-privs t) h = call-same T _ _ _ refl h
 refused-same T (set-admin t on) h = call-same T _ _ _ refl h
 refused-same T (access t x m) h = call-same T _ _ _ refl (sym (done-named _ _ _ _) ∙ h)
 refused-same T (port t p m) h = call-same T _ _ _ refl (sym (done-named _ _ _ _) ∙ h)
+refused-same T (task t u i) h = call-same T _ _ _ refl h
 refused-same T (create t d k) h = call-same T _ _ _ refl (sym (done-named _ _ _ _) ∙ h)
 refused-same T (remove t x) h = call-same T _ _ _ refl (sym (done-named _ _ _ _) ∙ h)
 refused-same T (link t s d) h = call-same T _ _ _ refl (sym (done-named _ _ _ _) ∙ h)

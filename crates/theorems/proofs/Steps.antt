@@ -25,6 +25,7 @@ use Rattle.fs.specs.Move.{entryRights, layerCrosses, verdict}
 use Rattle.fs_access.specs.Access.{accessCall}
 use Rattle.fs.specs.declared.needs.Step.the-variants.{Rename, Exchange}
 use Rattle.net.specs.Port.{portCall}
+use Rattle.task.specs.Task.{taskCall}
 use Rattle.ruleset.specs.Create.{created, createDone, closed, closeDone}
 use Rattle.rule.specs.Rule.{pathAdded, portAdded, addDone}
 use Rattle.domain_restrict.specs.Restrict.{restrictCall, restrictDone, restricted}
@@ -40,7 +41,7 @@ use Rattle.tree.specs.Create.{createShape, createVerdict, createLater, treeCrea
 use Rattle.tree.specs.Link.{linkShape, linkVerdict, linkLater, linkChecks, linked, treeLink}
 use Rattle.tree.specs.Rename.{renameNames, renameShape, renameVerdict, renameLater, renameChecks, dropped, moved, treeRename}
 use Rattle.tree.specs.Exchange.{exchangeNames, exchangeShape, exchangeVerdict, exchangeChecks, swapped, treeExchange}
-use Rattle.theorems.specs.Calls.{Call, create-ruleset, close-ruleset, add-path-rule, add-port-rule, restrict, layer-rules, clone, end-thread, set-no-new-privs, set-admin, access, port, create, remove, link, rename, exchange, outcomeOf, after, caller, isDone, wouldFree, frees}
+use Rattle.theorems.specs.Calls.{Call, create-ruleset, close-ruleset, add-path-rule, add-port-rule, restrict, layer-rules, clone, end-thread, set-no-new-privs, set-admin, access, port, task, create, remove, link, rename, exchange, outcomeOf, after, caller, isDone, wouldFree, frees}
 use Rattle.theorems.specs.Claim.{domainOf}
 use Rattle.theorems.proofs.Naming.{done-named}
 use Rattle.theorems.proofs.Shut.{gives, Shut, shut-up, Frame, Above}
@@ -209,7 +210,7 @@ module _ (T : Tables) (s : sound T ≡ true) where
   request-step a b D u cs r = verdict-step a b D u cs (outcome r T) (λ e. false) (λ z. other-done u (outcome r T) refl)
 
   pub step : (c : Call) → Step T (caller c) ((after T c) .entries) (frees T c)
-  unfolding outcomeOf caller wouldFree frees created closed createDone closeDone pathAdded portAdded addDone restrictCall restrictDone restricted cloned cloneDone endCall endDone privsSet adminSet markDone layerRead accessCall portCall
+  unfolding outcomeOf caller wouldFree frees created closed createDone closeDone pathAdded portAdded addDone restrictCall restrictDone restricted cloned cloneDone endCall endDone privsSet adminSet markDone layerRead accessCall portCall taskCall
   step (create-ruleset bs flags) = other-step 0 _ _ refl
   step (close-ruleset r) = other-step 0 _ _ refl
   step (add-path-rule r e rights flags) = other-step 0 _ _ refl
@@ -222,6 +223,7 @@ module _ (T : Tables) (s : sound T ≡ true) where
   step (set-admin t on) = other-step t _ _ refl
   step (access t e m) = request-step _ _ _ t _ _
   step (port t n m) = request-step _ _ _ t _ _
+  step (task t u i) = other-step t _ _ refl
   step (create t d k) = create-step t d k
   step (remove t x) = remove-step t x
   step (link t a d) = link-step t a d

@@ -15,6 +15,8 @@ use Rattle.domain.specs.Layer.{layerRead}
 use Rattle.domain_end.specs.End.{endCall}
 use Rattle.fs_access.specs.Access.{accessCall}
 use Rattle.net.specs.Port.{portCall}
+use Rattle.task.specs.declared.Scope.{Scope}
+use Rattle.task.specs.Task.{taskCall}
 use Rattle.tree.specs.declared.Replaced.{Replaced}
 use Rattle.tree.specs.Entries.{replacing, sameObject}
 use Rattle.tree.specs.Create.{treeCreate, treeRemove}
@@ -44,6 +46,8 @@ pub data Call : Type 0 where
   access : ℕ → ℕ → ℕ → Call
   -- thread, port, rights
   port : ℕ → ℕ → ℕ → Call
+  -- thread, the thread that it signals or whose socket it reaches
+  task : ℕ → ℕ → Scope → Call
   -- thread, directory, kind
   create : ℕ → ℕ → ℕ → Call
   -- thread, entry
@@ -69,6 +73,7 @@ outcomeOf T (set-no-new-privs t) = privsSet T t
 outcomeOf T (set-admin t on) = adminSet T t on
 outcomeOf T (access t e m) = accessCall T t e m
 outcomeOf T (port t p m) = portCall T t p m
+outcomeOf T (task t u s) = taskCall T t u s
 outcomeOf T (create t d k) = treeCreate T t d k
 outcomeOf T (remove t e) = treeRemove T t e
 outcomeOf T (link t s d) = treeLink T t s d
@@ -100,6 +105,7 @@ caller (set-no-new-privs t) = t
 caller (set-admin t on) = t
 caller (access t e m) = t
 caller (port t p m) = t
+caller (task t u s) = t
 caller (create t d k) = t
 caller (remove t e) = t
 caller (link t s d) = t
@@ -126,6 +132,7 @@ wouldFree T (set-no-new-privs t) e = false
 wouldFree T (set-admin t on) e = false
 wouldFree T (access t x m) e = false
 wouldFree T (port t p m) e = false
+wouldFree T (task t u s) e = false
 wouldFree T (create t d k) e = false
 wouldFree T (remove t x) e = eqb e x
 wouldFree T (link t s d) e = false
@@ -149,6 +156,7 @@ wouldEnd (set-no-new-privs u) t = false
 wouldEnd (set-admin u on) t = false
 wouldEnd (access u x m) t = false
 wouldEnd (port u p m) t = false
+wouldEnd (task u v s) t = false
 wouldEnd (create u d k) t = false
 wouldEnd (remove u x) t = false
 wouldEnd (link u s d) t = false

@@ -13,6 +13,8 @@ use Rattle.judge.specs.Judge.{denied}
 use Rattle.judge.specs.Domain.{domain}
 use Rattle.fs.specs.Move.{entryRights}
 use Rattle.sound.specs.Sound.{sound}
+use Rattle.task.specs.declared.Scope.{Scope}
+use Rattle.task.specs.Task.{reaches}
 use Rattle.theorems.specs.Calls.{Call, link, after, reply, afterAll, caller, frees, ends}
 
 -- the domain of a thread
@@ -27,6 +29,10 @@ holds T D e i = has (entryRights (T .entries) e) i && not (any (λ l. has (denie
 unfoldable pub portGrants : Tables → List ℕ → ℕ → ℕ → Bool
 portGrants T D port i =
     not (any (λ l. let L = layerAt (T .layers) (T .pool) l in has (L .net) i && not (has (rightsOn (L .rules) portRule port) i)) D)
+
+-- "that it can reach": thread u, from thread t
+unfoldable pub mayReach : Tables → Scope → ℕ → ℕ → Bool
+mayReach T s t u = reaches (T .layers) s (domainOf T t) (domainOf T u)
 
 -- "A domain is grown from another if all layers of that one are in it"
 unfoldable pub Grown : List ℕ → List ℕ → Type 0
@@ -46,7 +52,7 @@ unfoldable pub Kept : Tables → List Call → ℕ → Type 0
 Kept T [] e = Unit {0}
 Kept T (c ∷ cs) e = (frees T c e ≡ false) × Kept (after T c) cs e
 
--- document 02, W13, "must live throughout": none of the calls ends t
+-- document 02, W13, "must live throughout": none of the calls ends t; a number that is used again is another thread
 unfoldable pub Lives : Tables → List Call → ℕ → Type 0
 Lives T [] t = Unit {0}
 Lives T (c ∷ cs) t = (ends T c t ≡ false) × Lives (after T c) cs t
@@ -61,6 +67,9 @@ pub record NotWider (T : Tables) (t : ℕ) (cs : List Call) : Type 0 where
       → holds (afterAll T before) (domainOf T t) s i ≡ false → holds (afterAll T cs) (domainOf T t) n i ≡ false
   -- no port is granted a right that it was not granted
   pub ports : (port i : ℕ) → portGrants T (domainOf T t) port i ≡ false → portGrants (afterAll T cs) (domainOf (afterAll T cs) t) port i ≡ false
+  -- document 02, W10, "those threads that live throughout with unchanged domains and that it can reach never become more": u is reached only if it was, for each scope
+  pub threads : (s : Scope) (u : ℕ) → threadLive (T .threads) u ≡ true → Lives T cs u → domainOf (afterAll T cs) u ≡ domainOf T u
+      → mayReach (afterAll T cs) s t u ≡ true → mayReach T s t u ≡ true
 
 -- any sound tables, any live thread, any calls with any arguments that do not end it, whichever threads make them
 unfoldable pub Demand3 : Type 0

@@ -24,6 +24,7 @@ use Rattle.domain.specs.Layer.{layerChecks}
 use Rattle.domain_end.specs.End.{endChecks}
 use Rattle.fs_access.specs.Access.{accessChecks}
 use Rattle.net.specs.Port.{portChecks}
+use Rattle.task.specs.Task.{taskChecks}
 use Rattle.fs.specs.Needs.{makeOf, removeOf}
 use Rattle.fs.specs.Blame.{deniedMove, crossedMove}
 use Rattle.fs.specs.declared.verdict.Move.{Move}
@@ -32,7 +33,7 @@ use Rattle.tree.specs.Create.{treeCreateChecks, removeChecks}
 use Rattle.tree.specs.Link.{linkChecks}
 use Rattle.tree.specs.Rename.{renameChecks}
 use Rattle.tree.specs.Exchange.{exchangeChecks}
-use Rattle.theorems.specs.Calls.{Call, create-ruleset, close-ruleset, add-path-rule, add-port-rule, restrict, layer-rules, clone, end-thread, set-no-new-privs, set-admin, access, port, create, remove, link, rename, exchange, caller, reply}
+use Rattle.theorems.specs.Calls.{Call, create-ruleset, close-ruleset, add-path-rule, add-port-rule, restrict, layer-rules, clone, end-thread, set-no-new-privs, set-admin, access, port, task, create, remove, link, rename, exchange, caller, reply}
 use Rattle.theorems.specs.Claim.{domainOf}
 
 -- the refusals of a call on sound tables, in their order
@@ -49,6 +50,7 @@ refusalsOf T (set-no-new-privs t) = markChecks T t
 refusalsOf T (set-admin t on) = markChecks T t
 refusalsOf T (access t e m) = accessChecks T t e m
 refusalsOf T (port t p m) = portChecks T t p m
+refusalsOf T (task t u s) = taskChecks (T .layers) (T .threads) t u s
 refusalsOf T (create t d k) = treeCreateChecks T t d k
 refusalsOf T (remove t e) = removeChecks T t e
 refusalsOf T (link t s d) = linkChecks T t s d
@@ -94,6 +96,7 @@ verdictOn T (set-no-new-privs t) = nothing
 verdictOn T (set-admin t on) = nothing
 verdictOn T (access t e m) = atEntry T e m
 verdictOn T (port t p m) = atPort T p m
+verdictOn T (task t u s) = nothing
 verdictOn T (create t d k) = atEntry T d (makeOf (kindOf k))
 verdictOn T (remove t e) = atEntry T (parent (T .entries) e) (removeOf (kindOf (kind (T .entries) e)))
 verdictOn T (link t s d) = ofMove T (linkMove (T .entries) s d)

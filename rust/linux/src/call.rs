@@ -47,5 +47,8 @@ pub fn answer_text(call: &Call, answer: i64) -> String {
 
 /// Whether a success may change something.
 pub fn may_change(call: &Call) -> bool {
-    !matches!(call, Call::Access { .. } | Call::Port { .. })
+    !matches!(
+        call,
+        Call::Access { .. } | Call::Port { .. } | Call::Signal { .. } | Call::AbstractSocket { .. }
+    )
 }

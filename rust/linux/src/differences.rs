@@ -2,6 +2,7 @@
 
 use crate::broker::Broker;
 use crate::kernel::MAX_KERNEL_DOMAIN;
+use crate::operation::Operation;
 use crate::rights::*;
 use model::call::Call;
 use model::state::{MAX_RULES, MAX_THREADS, POOL_PLACES};
@@ -11,6 +12,8 @@ use model::state::{MAX_RULES, MAX_THREADS, POOL_PLACES};
 pub struct Answers<'a> {
     pub tables: &'a Broker,
     pub call: &'a Call,
+    /// What asked Linux.
+    pub operation: &'a Operation,
     pub ours: i64,
     /// The independent model's answer, after the same calls.
     pub model: i64,
@@ -59,12 +62,18 @@ pub fn compare(answers: &Answers) -> Comparison {
         .map_or(Comparison::Unknown, Comparison::Known)
 }
 
-pub const CLASSES: [Class; 18] = [
+pub const CLASSES: [Class; 19] = [
     Class {
         name: "refer-of-domain",
         linux: "every layer of a domain handles REFER as soon as one of them has a file system mask",
         paper: "W3: a layer handles REFER unasked only if its file system mask is not zero. Follow it.",
         applies: refer_of_domain,
+    },
+    Class {
+        name: "signal-within-a-process",
+        linux: "threads of one process signal each other, whatever their domains are",
+        paper: "W10: exactly if every layer in its domain that handles that scope is also a layer of the other thread's domain; otherwise EPERM",
+        applies: signal_within_a_process,
     },
     Class {
         name: "link-directory",
@@ -174,6 +183,10 @@ pub const CLASSES: [Class; 18] = [
 /// The model, which answers as we do, would answer as Linux does by Linux's rule.
 fn refer_of_domain(d: &Answers) -> bool {
     d.linux == d.by_domain
+}
+
+fn signal_within_a_process(d: &Answers) -> bool {
+    matches!(d.operation, Operation::SignalThread { .. }) && d.linux == 0 && d.ours == -EPERM
 }
 
 fn link_directory(d: &Answers) -> bool {
@@ -364,6 +377,13 @@ mod tests {
     const NETWORK: u64 = 2;
     const MIXED: u64 = 3;
 
+    fn create_ruleset(masks: &[u64]) -> Call {
+        Call::CreateRuleset {
+            bytes: masks.iter().flat_map(|mask| mask.to_le_bytes()).collect(),
+            flags: 0,
+        }
+    }
+
     fn path_rule(entry: u64, rights: u64) -> Call {
         Call::AddPathRule {
             ruleset: 1,
@@ -381,10 +401,6 @@ mod tests {
             directory,
             kind,
             report: NO_REPORT,
-        };
-        let create_ruleset = |masks: &[u64]| Call::CreateRuleset {
-            bytes: masks.iter().flat_map(|mask| mask.to_le_bytes()).collect(),
-            flags: 0,
         };
         let restrict = |thread, ruleset| Call::Restrict {
             thread,
@@ -425,6 +441,16 @@ mod tests {
 
     /// The same after calls that succeed.
     fn compared_after(before: &[Call], call: &Call, ours: i64, linux: i64) -> Comparison {
+        compared_by(&Operation::SetNoNewPrivs, before, call, [ours, linux])
+    }
+
+    /// The same where it was this that asked Linux.
+    fn compared_by(
+        operation: &Operation,
+        before: &[Call],
+        call: &Call,
+        [ours, linux]: [i64; 2],
+    ) -> Comparison {
         let (mut tables, mut model) = sides();
         for call in before {
             assert!(tables.ask(call) >= 0, "{call:?}");
@@ -433,6 +459,7 @@ mod tests {
         compare(&Answers {
             tables: &tables,
             call,
+            operation,
             ours,
             by_domain: returned(model.answer_by_domain(call).0) as i64,
             model: returned(model.answer(call).0) as i64,
@@ -569,6 +596,43 @@ mod tests {
         }
         let both = compared_after(&full, &restrict(9), -EBADF, -EBADF);
         assert_eq!(both, Comparison::Agree);
+    }
+
+    #[test]
+    fn a_signal_within_a_process_is_of_the_class() {
+        let [_, _, scopes] = known(TOP_LEVEL);
+        let restrict = Call::Restrict {
+            thread: NETWORK,
+            ruleset: 3,
+            flags: 0,
+        };
+        let before = [create_ruleset(&[0, 0, scopes]), restrict];
+        let signal = |thread, target| Call::Signal { thread, target };
+        let compared = |operation, call, answers| compared_by(&operation, &before, &call, answers);
+        let thread = || Operation::SignalThread { thread: 1 };
+        let process = || Operation::Forked(Box::new(Operation::SignalProcess { descriptor: 3 }));
+        let class = class("signal-within-a-process");
+        let answers = compared(thread(), signal(NETWORK, FREE), [-EPERM, 0]);
+        assert_eq!(answers, class);
+        let both = compared(process(), signal(NETWORK, FREE), [-EPERM, -EPERM]);
+        assert_eq!(both, Comparison::Agree);
+        let socket = Call::AbstractSocket {
+            thread: NETWORK,
+            target: FREE,
+        };
+        let wrong = [
+            (process(), signal(NETWORK, FREE), [-EPERM, 0]),
+            (thread(), signal(NETWORK, FREE), [0, 0]),
+            (thread(), signal(NETWORK, FREE), [-EPERM, -ESRCH]),
+            (thread(), signal(FREE, NETWORK), [-EPERM, 0]),
+            (thread(), signal(FREE, NETWORK), [0, -EPERM]),
+            (process(), socket, [-EPERM, 0]),
+        ];
+        for (operation, call, answers) in wrong {
+            let message = format!("{operation:?} {call:?} {answers:?}");
+            let unknown = compared(operation, call, answers);
+            assert_eq!(unknown, Comparison::Unknown, "{message}");
+        }
     }
 
     /// The file to a directory.

@@ -5,7 +5,7 @@ use crate::call::NO_REPORT;
 use crate::machine::Machine;
 use crate::rights::*;
 use model::call::Call;
-use model::state::{MAX_ENTRIES, MAX_RULESETS};
+use model::state::{MAX_ENTRIES, MAX_RULESETS, MAX_THREADS};
 use random::Random;
 
 /// Ports above the ephemeral ones, and port 0.
@@ -28,9 +28,10 @@ pub struct Generator<'a> {
 
 type Choice = fn(&mut Generator) -> Call;
 
-const CHOICES: [(u64, Choice); 15] = [
+const CHOICES: [(u64, Choice); 16] = [
     (24, |g| g.access()),
     (6, |g| g.port()),
+    (1, |g| g.reach()),
     (9, |g| g.create()),
     (8, |g| g.remove()),
     (12, |g| g.link()),
@@ -52,6 +53,9 @@ impl Generator<'_> {
         let choice = self.random.weighted(&CHOICES);
         match choice(self) {
             Call::Port { .. } if !self.machine.tcp => self.access(),
+            Call::Signal { .. } | Call::AbstractSocket { .. } if !self.machine.scopes => {
+                self.access()
+            }
             Call::Exchange { .. } if !self.machine.exchange => self.rename(),
             // Without a thread the process has ended.
             Call::End { thread } if self.tables.live_threads() == [thread] => self.access(),
@@ -203,6 +207,21 @@ impl Generator<'_> {
             port: self.random.pick(&PORTS),
             rights,
             report: NO_REPORT,
+        }
+    }
+
+    /// A signal or a socket of a live thread, or now and then a signal to any number.
+    pub fn reach(&mut self) -> Call {
+        let thread = self.thread();
+        let target = self.random.pick(&self.tables.live_threads());
+        match self.random.below(20) {
+            0 => {
+                let numbers = [0, MAX_THREADS - 1, MAX_THREADS, u64::MAX];
+                let target = self.random.pick(&numbers);
+                Call::Signal { thread, target }
+            }
+            1..10 => Call::Signal { thread, target },
+            _ => Call::AbstractSocket { thread, target },
         }
     }
 

@@ -4,6 +4,7 @@ use crate::broker::Broker;
 use crate::operation::Operation;
 use crate::rights::*;
 use crate::sys;
+use crate::target::Target;
 use crate::task::Task;
 use model::call::Call;
 use model::state::{MAX_ENTRIES, MAX_RULESETS};
@@ -30,6 +31,8 @@ pub struct Kernel {
     /// The Linux thread of each live thread.
     tasks: BTreeMap<u64, Task>,
     started: Option<Task>,
+    /// The requests between threads so far.
+    requests: u64,
 }
 
 impl Kernel {
@@ -44,11 +47,16 @@ impl Kernel {
             rulesets: [None; MAX_RULESETS as usize],
             tasks: BTreeMap::from([(0, Task::start())]),
             started: None,
+            requests: 0,
         }
     }
 
     /// Does what the call asks, on the thread that it names. The tables are those before the call.
     pub fn perform(&mut self, tables: &Broker, call: &Call) -> (Operation, i64) {
+        if let Call::Signal { thread, target } | Call::AbstractSocket { thread, target } = *call {
+            let target = self.target(call, target);
+            return self.reach(thread, &target);
+        }
         let operation = self.operation(tables, call);
         let answer = match (&operation, thread_of(call)) {
             (Operation::StartThread, Some(thread)) => {
@@ -63,6 +71,27 @@ impl Kernel {
             (_, None) => operation.run(),
         };
         (operation, answer)
+    }
+
+    /// What a request between threads is for, by turns in the two ways: from thread to thread, and from process to process. A thread
+    /// that is not live is a process that has ended.
+    fn target(&mut self, call: &Call, target: u64) -> Target {
+        self.requests += 1;
+        let forked = self.requests.is_multiple_of(2);
+        let target = match (call, self.tasks.get(&target)) {
+            (Call::Signal { .. }, None) => Target::ended(),
+            (Call::Signal { .. }, Some(task)) if forked => Target::process(task),
+            (Call::Signal { .. }, Some(task)) => Some(Target::thread(task)),
+            (_, Some(task)) => Target::socket(task, self.requests, forked),
+            (_, None) => panic!("{call:?}: no thread has the socket"),
+        };
+        target.expect("the machine permits processes and abstract sockets")
+    }
+
+    fn reach(&self, thread: u64, target: &Target) -> (Operation, i64) {
+        let operation = target.operation.clone();
+        let trying = operation.clone();
+        (operation, self.tasks[&thread].run(move || trying.run()))
     }
 
     /// Lets a thread exit, and waits until it has.

@@ -3,6 +3,7 @@
 use crate::operation::Operation;
 use crate::rights::*;
 use crate::sys::{self, landlock};
+use crate::target;
 
 pub struct Machine {
     pub abi: i64,
@@ -15,6 +16,8 @@ pub struct Machine {
     pub execve_check: bool,
     pub exchange: bool,
     pub tcp: bool,
+    /// Scopes, and what they keep a thread from.
+    pub scopes: bool,
     /// A regular file, where symlinks lead.
     pub plain_file: String,
 }
@@ -43,6 +46,7 @@ impl Machine {
                 }
                 .run()
                     == 0,
+            scopes: abi >= 6 && target::can_be_reached(),
             plain_file,
         }
     }
@@ -89,6 +93,10 @@ impl Machine {
                 "ports: the kernel has no network rights, or TCP sockets are not permitted",
             ),
             (
+                self.scopes,
+                "signals and abstract sockets: the kernel has no scopes, or pidfds or abstract sockets are not permitted",
+            ),
+            (
                 self.admin,
                 "the admin mark: this program has no CAP_SYS_ADMIN",
             ),
@@ -110,12 +118,12 @@ pub const LEFT_OUT: [&str; 11] = [
     "EOPNOTSUPP (level 0): Landlock cannot be switched off in a running kernel",
     "EINVAL and E2BIG for what only a higher level knows: a kernel has one level",
     "EIO: the kernel's own state cannot be damaged from outside",
-    "ESRCH: a thread that is not live makes no system call",
+    "ESRCH, but for the target of a signal: a thread that is not live makes no system call, and has no socket",
     "EBUSY for the only live thread: in Linux it exits, and the process with it",
     "ENOSPC: a file system has no such table of entries, nor object numbers",
     "E2BIG for a 65th layer of a domain and ENOMEM for a 257th layer: the kernel stops at 16 layers to a domain, 128 for all threads",
     "layer_rules: the kernel does not show a domain's rules",
-    "scopes: rulesets have them, but signals and abstract sockets are not tried, since the tables only store scopes",
+    "sockets that were made before a layer: a socket keeps the domain of its making, and the tables know threads alone",
     "opening block devices: an open may load a driver",
     "arguments without a counterpart: entries not in the directory named, ports above 65,535 in a question about a port, rights that no \
      single operation asks for",
@@ -143,6 +151,7 @@ mod tests {
             execve_check: true,
             exchange: true,
             tcp: true,
+            scopes: true,
             plain_file: String::new(),
         }
     }
@@ -150,7 +159,7 @@ mod tests {
     #[test]
     fn each_thing_that_is_lacking_is_said() {
         assert!(whole().lacks().is_empty());
-        let lack: [fn(&mut Machine); 8] = [
+        let lack: [fn(&mut Machine); 9] = [
             |machine| machine.abi = 5,
             |machine| machine.admin = false,
             |machine| machine.no_new_privs = true,
@@ -159,6 +168,7 @@ mod tests {
             |machine| machine.execve_check = false,
             |machine| machine.exchange = false,
             |machine| machine.tcp = false,
+            |machine| machine.scopes = false,
         ];
         for take_away in lack {
             let mut machine = whole();

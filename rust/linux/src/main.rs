@@ -16,8 +16,10 @@ mod operation;
 mod orders;
 mod rights;
 mod scenario;
+mod scopes;
 mod sys;
 mod tally;
+mod target;
 mod task;
 
 use machine::{Machine, LEFT_OUT};

@@ -61,6 +61,19 @@ pub enum Operation {
         port: u16,
         rights: u64,
     },
+    /// Within this process.
+    SignalThread {
+        thread: i64,
+    },
+    SignalProcess {
+        descriptor: c_int,
+    },
+    ConnectAbstract {
+        kind: c_int,
+        name: String,
+    },
+    /// In a process that the thread forks.
+    Forked(Box<Operation>),
     SetNoNewPrivs,
     SetAdmin {
         on: bool,
@@ -155,6 +168,10 @@ impl Operation {
     pub fn run(&self) -> i64 {
         match self {
             Operation::Tcp { port, rights } => use_port(*port, *rights),
+            Operation::SignalThread { thread } => sys::signal_thread(*thread),
+            Operation::SignalProcess { descriptor } => sys::signal_process(*descriptor),
+            Operation::ConnectAbstract { kind, name } => sys::connect_abstract(*kind, name),
+            Operation::Forked(operation) => sys::in_process(|| operation.run()),
             Operation::SetNoNewPrivs => sys::set_no_new_privs(),
             Operation::SetAdmin { on } => sys::set_admin(*on),
             // These are the part of whoever holds the threads.

@@ -9,6 +9,7 @@ use crate::limits;
 use crate::machine::Machine;
 use crate::orders;
 use crate::rights::{outcome, DIRECTORY};
+use crate::scopes;
 use crate::tally::Tally;
 use model::call::Call;
 use model::refusal::returned;
@@ -63,6 +64,7 @@ impl<'a> Scenario<'a> {
         match self.random.below(100) {
             0..2 => orders::play(&mut self)?,
             2..8 => limits::play(&mut self)?,
+            8..10 if self.machine.scopes => scopes::play(&mut self)?,
             _ => self.play_random()?,
         }
         self.compare_trees()
@@ -128,7 +130,7 @@ impl<'a> Scenario<'a> {
         Ok(())
     }
 
-    fn ask_any(&mut self, choose: fn(&mut Generator) -> Call) -> Result<(), Stop> {
+    pub fn ask_any(&mut self, choose: fn(&mut Generator) -> Call) -> Result<(), Stop> {
         let call = choose(&mut Generator {
             random: &mut self.random,
             tables: &self.tables,
@@ -154,6 +156,7 @@ impl<'a> Scenario<'a> {
         let answers = Answers {
             tables: &before,
             call: &call,
+            operation: &operation,
             ours,
             model,
             by_domain,

@@ -26,11 +26,16 @@ const TCGETS: c_ulong = 0x5401;
 const PR_SET_PDEATHSIG: c_int = 1;
 const PR_SET_NO_NEW_PRIVS: c_int = 38;
 const PR_GET_NO_NEW_PRIVS: c_int = 39;
-const SIGKILL: c_ulong = 9;
 const SIGINT: c_int = 2;
+const SIGKILL: c_int = 9;
+/// One that a process ignores unless it says otherwise.
+const SIGURG: c_int = 23;
 const RLIMIT_NOFILE: c_int = 7;
+const AF_UNIX: u16 = 1;
 const AF_INET: u16 = 2;
-const SOCK_STREAM: c_int = 1;
+pub const SOCK_STREAM: c_int = 1;
+pub const SOCK_DGRAM: c_int = 2;
+pub const SOCK_SEQPACKET: c_int = 5;
 const CLONE_NEWNS: c_int = 0x20000;
 const MS_PRIVATE_AND_BELOW: c_ulong = 0x40000 | 0x4000;
 
@@ -38,14 +43,6 @@ const MS_PRIVATE_AND_BELOW: c_ulong = 0x40000 | 0x4000;
 struct Rlimit {
     soft: c_ulong,
     hard: c_ulong,
-}
-
-#[repr(C)]
-struct SockaddrIn {
-    family: u16,
-    port: [u8; 2],
-    address: [u8; 4],
-    zero: [u8; 8],
 }
 
 #[repr(C)]
@@ -100,8 +97,9 @@ extern "C" {
         flags: c_uint,
     ) -> c_int;
     fn socket(family: c_int, kind: c_int, protocol: c_int) -> c_int;
-    fn bind(fd: c_int, address: *const SockaddrIn, length: c_uint) -> c_int;
-    fn connect(fd: c_int, address: *const SockaddrIn, length: c_uint) -> c_int;
+    fn bind(fd: c_int, address: *const u8, length: c_uint) -> c_int;
+    fn connect(fd: c_int, address: *const u8, length: c_uint) -> c_int;
+    fn listen(fd: c_int, backlog: c_int) -> c_int;
     fn prctl(option: c_int, ...) -> c_int;
     fn capget(header: *mut CapabilityHeader, data: *mut Capabilities) -> c_int;
     fn capset(header: *mut CapabilityHeader, data: *const Capabilities) -> c_int;
@@ -109,6 +107,12 @@ extern "C" {
     fn setrlimit(resource: c_int, limit: *const Rlimit) -> c_int;
     #[link_name = "fork"]
     fn fork_process() -> c_int;
+    fn _exit(status: c_int) -> !;
+    fn pause() -> c_int;
+    fn gettid() -> c_int;
+    fn tgkill(process: c_int, thread: c_int, signal: c_int) -> c_int;
+    #[link_name = "kill"]
+    fn kill_process(pid: c_int, signal: c_int) -> c_int;
     fn unshare(flags: c_int) -> c_int;
     fn mount(
         source: *const c_char,
@@ -227,31 +231,65 @@ pub fn rename(from: &str, to: &str, flags: c_uint) -> i64 {
     })
 }
 
-fn with_tcp_socket(
-    port: u16,
-    call: unsafe extern "C" fn(c_int, *const SockaddrIn, c_uint) -> c_int,
-) -> i64 {
-    let address = SockaddrIn {
-        family: AF_INET,
-        port: port.to_be_bytes(),
-        address: [127, 0, 0, 1],
-        zero: [0; 8],
-    };
-    let fd = answer(unsafe { socket(AF_INET.into(), SOCK_STREAM | O_NONBLOCK | O_CLOEXEC, 0) });
+/// The bytes of the address of a port of this machine.
+fn tcp_address(port: u16) -> Vec<u8> {
+    let (family, port) = (AF_INET.to_ne_bytes(), port.to_be_bytes());
+    [&family[..], &port, &[127, 0, 0, 1], &[0; 8]].concat()
+}
+
+/// The bytes of the address of a name that stands in no file system: it begins with a zero byte.
+fn abstract_address(name: &str) -> Vec<u8> {
+    [&AF_UNIX.to_ne_bytes()[..], &[0], name.as_bytes()].concat()
+}
+
+fn new_socket(family: u16, kind: c_int) -> i64 {
+    answer(unsafe { socket(family.into(), kind | O_NONBLOCK | O_CLOEXEC, 0) })
+}
+
+type WithAddress = unsafe extern "C" fn(c_int, *const u8, c_uint) -> c_int;
+
+fn with_address(fd: c_int, call: WithAddress, address: &[u8]) -> i64 {
+    answer(unsafe { call(fd, address.as_ptr(), address.len() as c_uint) })
+}
+
+/// Makes a call with an address on a socket of its own.
+fn with_socket(family: u16, kind: c_int, call: WithAddress, address: &[u8]) -> i64 {
+    let fd = new_socket(family, kind);
     if fd < 0 {
         return fd;
     }
-    let result = answer(unsafe { call(fd as c_int, &address, size_of::<SockaddrIn>() as c_uint) });
+    let result = with_address(fd as c_int, call, address);
     close(fd as c_int);
     result
 }
 
 pub fn bind_tcp(port: u16) -> i64 {
-    with_tcp_socket(port, bind)
+    with_socket(AF_INET, SOCK_STREAM, bind, &tcp_address(port))
 }
 
 pub fn connect_tcp(port: u16) -> i64 {
-    with_tcp_socket(port, connect)
+    with_socket(AF_INET, SOCK_STREAM, connect, &tcp_address(port))
+}
+
+/// Makes an abstract UNIX socket that can be connected to; its descriptor.
+pub fn listen_abstract(kind: c_int, name: &str) -> i64 {
+    let fd = new_socket(AF_UNIX, kind);
+    if fd < 0 {
+        return fd;
+    }
+    let mut answered = with_address(fd as c_int, bind, &abstract_address(name));
+    if answered == 0 && kind != SOCK_DGRAM {
+        answered = answer(unsafe { listen(fd as c_int, 1) });
+    }
+    if answered < 0 {
+        close(fd as c_int);
+        return answered;
+    }
+    fd
+}
+
+pub fn connect_abstract(kind: c_int, name: &str) -> i64 {
+    with_socket(AF_UNIX, kind, connect, &abstract_address(name))
 }
 
 fn process_control(option: c_int, argument: c_ulong) -> i64 {
@@ -323,9 +361,62 @@ pub fn without_free_descriptor(call: impl FnOnce() -> i64) -> i64 {
 pub fn fork() -> i64 {
     let pid = answer(unsafe { fork_process() });
     if pid == 0 {
-        process_control(PR_SET_PDEATHSIG, SIGKILL);
+        process_control(PR_SET_PDEATHSIG, SIGKILL as c_ulong);
     }
     pid
+}
+
+/// Forks a process that waits until it is killed; its number.
+pub fn fork_waiting() -> i64 {
+    let pid = fork();
+    if pid == 0 {
+        loop {
+            unsafe { pause() };
+        }
+    }
+    pid
+}
+
+/// Does something in a forked process and waits for it; 0 or a negative error number.
+pub fn in_process(action: impl FnOnce() -> i64) -> i64 {
+    let pid = fork();
+    if pid == 0 {
+        let error = -action();
+        unsafe { _exit(error as c_int) };
+    }
+    if pid < 0 {
+        return pid;
+    }
+    let status = wait(pid).expect("no signal ends the process");
+    -i64::from(status)
+}
+
+/// The number of the calling thread.
+pub fn thread_id() -> i64 {
+    i64::from(unsafe { gettid() })
+}
+
+/// Sends a signal that does nothing to a thread of this process.
+pub fn signal_thread(thread: i64) -> i64 {
+    answer(unsafe { tgkill(std::process::id() as c_int, thread as c_int, SIGURG) })
+}
+
+/// A descriptor of a process, which names it also when it has ended.
+pub fn open_process(pid: i64) -> i64 {
+    const PIDFD_OPEN: c_long = 434;
+    long_answer(unsafe { syscall(PIDFD_OPEN, pid as c_int, 0) })
+}
+
+/// Sends a signal that does nothing to a process.
+pub fn signal_process(descriptor: c_int) -> i64 {
+    const PIDFD_SEND_SIGNAL: c_long = 424;
+    let no_more = std::ptr::null::<c_void>();
+    long_answer(unsafe { syscall(PIDFD_SEND_SIGNAL, descriptor, SIGURG, no_more, 0) })
+}
+
+/// Ends a child.
+pub fn kill(pid: i64) -> i64 {
+    answer(unsafe { kill_process(pid as c_int, SIGKILL) })
 }
 
 /// Puts a file system in memory at a directory, which this process and its children alone see; 0 or why there is none.

@@ -78,6 +78,8 @@ calls! {
     SetAdmin "set_admin" { thread, on } => model.set_admin(thread, on != 0);
     Access "access" { thread, entry, rights, report } => model.access(thread, entry, rights);
     Port "port" { thread, port, rights, report } => model.port(thread, port, rights);
+    Signal "signal" { thread, target } => model.signal(thread, target);
+    AbstractSocket "abstract_socket" { thread, target } => model.abstract_socket(thread, target);
     Create "create" { thread, directory, kind, report } => model.create(thread, directory, kind);
     Remove "remove" { thread, entry, report } => model.remove(thread, entry);
     Link "link" { thread, source, directory, report } => model.link(thread, source, directory);

@@ -36,18 +36,20 @@ pub fn every_call(model: &Model, random: &mut Random) -> Vec<Call> {
 type Make = fn(&mut Choose) -> Call;
 
 /// The calls, each with the end of its share of a thousand.
-const SORTS: [(u64, Make); 18] = [
+const SORTS: [(u64, Make); 20] = [
     (4, |choose| choose.fresh()),
-    (80, |choose| choose.create_ruleset()),
-    (110, |choose| choose.close_ruleset()),
-    (220, |choose| choose.add_path_rule()),
-    (290, |choose| choose.add_port_rule()),
-    (370, |choose| choose.restrict()),
-    (400, |choose| choose.layer_rules()),
-    (435, |choose| choose.clone_thread()),
-    (470, |choose| choose.end_thread()),
-    (480, |choose| choose.set_no_new_privs()),
-    (500, |choose| choose.set_admin()),
+    (75, |choose| choose.create_ruleset()),
+    (100, |choose| choose.close_ruleset()),
+    (195, |choose| choose.add_path_rule()),
+    (250, |choose| choose.add_port_rule()),
+    (330, |choose| choose.restrict()),
+    (350, |choose| choose.layer_rules()),
+    (385, |choose| choose.clone_thread()),
+    (420, |choose| choose.end_thread()),
+    (430, |choose| choose.set_no_new_privs()),
+    (450, |choose| choose.set_admin()),
+    (475, |choose| choose.signal()),
+    (500, |choose| choose.abstract_socket()),
     (570, |choose| choose.access()),
     (615, |choose| choose.port()),
     (695, |choose| choose.create()),
@@ -263,6 +265,16 @@ impl Choose<'_> {
             rights,
             report: self.report(),
         }
+    }
+
+    fn signal(&mut self) -> Call {
+        let [thread, target] = [(); 2].map(|()| self.thread());
+        Call::Signal { thread, target }
+    }
+
+    fn abstract_socket(&mut self) -> Call {
+        let [thread, target] = [(); 2].map(|()| self.thread());
+        Call::AbstractSocket { thread, target }
     }
 
     fn create(&mut self) -> Call {

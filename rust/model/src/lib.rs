@@ -1,10 +1,11 @@
 //! An independent program that answers as document 01 and the requests of document 02 say, written
 //! from the papers alone, and the means to compare it with another broker over the same tables.
 //!
-//! The model is [`state`] with the calls in [`rulesets`], [`threads`], [`judge`] and [`tree`], and
-//! what a refused verdict names in [`denial`]; [`tables`] and [`sound`] convert between it and cells. The comparison is [`compare`], fed by
-//! [`start`], [`generate`], [`damage`], [`odd`] and [`attributes`], and by [`long_run`] with very
-//! many calls on the same tables; a difference is made short by [`shrink`] and printed by [`scenario`].
+//! The model is [`state`] with the calls in [`rulesets`], [`threads`], [`judge`], [`scopes`] and
+//! [`tree`], and what a refused verdict names in [`denial`]; [`tables`] and [`sound`] convert between
+//! it and cells. The comparison is [`compare`], fed by [`start`], [`generate`], [`damage`], [`odd`] and
+//! [`attributes`], and by [`long_run`] with very many calls on the same tables; a difference is made
+//! short by [`shrink`] and printed by [`scenario`].
 
 pub mod attributes;
 pub mod call;
@@ -22,6 +23,7 @@ pub mod refusal;
 pub mod rights;
 pub mod rulesets;
 pub mod scenario;
+pub mod scopes;
 pub mod shrink;
 pub mod sound;
 pub mod start;

@@ -57,7 +57,8 @@ fn beginning() -> Model {
     let mut model = Model::fresh(LEVEL);
     let ready = model.set_no_new_privs(0).and_then(|_| {
         RULES.iter().try_fold(0, |_, count| {
-            let handled = [1u64, 3].into_iter().flat_map(u64::to_le_bytes);
+            let scopes = model.rulesets.len() as u64 % 4;
+            let handled = [1, 3, scopes].into_iter().flat_map(u64::to_le_bytes);
             let ruleset = model.create_ruleset(&handled.collect::<Vec<u8>>(), 0)?;
             (0..*count).try_fold(0, |_, port| {
                 model.add_port_rule(ruleset, port_of(ruleset, port), 1 + port % 3, 0)
@@ -73,8 +74,18 @@ fn port_of(ruleset: u64, rule: u64) -> u64 {
     100 * ruleset + rule
 }
 
-/// A request that some layers grant.
-fn request(thread: u64, random: &mut Random) -> Call {
+/// A request that some layers grant, of one of the threads.
+fn request(live: &[u64], random: &mut Random) -> Call {
+    let [thread, target] = [(); 2].map(|()| random.pick(live));
+    match random.below(4) {
+        0 => Call::Signal { thread, target },
+        1 => Call::AbstractSocket { thread, target },
+        _ => judged_request(thread, random),
+    }
+}
+
+/// A request about an entry or a port.
+fn judged_request(thread: u64, random: &mut Random) -> Call {
     let report = random.pick(&[0, 1, 2, 3, 5]);
     if random.chance(20) {
         let rights = random.pick(&[1, 2, 0x2001]);
@@ -131,7 +142,7 @@ impl Phase {
             Phase::Ends => (20, 20),
         };
         if random.chance(REQUESTS) {
-            return request(random.pick(&live), random);
+            return request(&live, random);
         }
         let sort = random.below(100);
         if sort < clones || others.is_empty() && random.chance(95) {

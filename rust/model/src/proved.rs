@@ -75,6 +75,12 @@ macro_rules! core_answer {
             Call::Port { thread, port, rights, .. } => {
                 skeinrabbit_sys::port($tables.shared(), thread, port, rights, $report)
             }
+            Call::Signal { thread, target } => {
+                skeinrabbit_sys::signal($tables.shared(), thread, target)
+            }
+            Call::AbstractSocket { thread, target } => {
+                skeinrabbit_sys::abstract_socket($tables.shared(), thread, target)
+            }
             $(Call::$variant { $($field,)* .. } => {
                 skeinrabbit_sys::$function($tables, $($field,)* $($reported)?)
             })*

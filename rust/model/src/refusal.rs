@@ -96,6 +96,10 @@ refusals! {
     PortOutOfRange EINVAL;
     RulesetFull E2BIG;
     ThreadNotLive ESRCH;
+    /// The thread that a request between threads is for.
+    TargetNotLive ESRCH;
+    /// A layer handles the scope, and the target doesn't have it.
+    OutOfScope EPERM;
     /// Neither no_new_privs nor admin is set.
     NoMark EPERM;
     DomainFull E2BIG;

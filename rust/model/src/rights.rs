@@ -24,6 +24,8 @@ impl Rights {
     pub const IOCTL_DEV: Rights = Rights(1 << 15);
     pub const BIND_TCP: Rights = Rights(1 << 0);
     pub const CONNECT_TCP: Rights = Rights(1 << 1);
+    pub const ABSTRACT_UNIX_SOCKET: Rights = Rights(1 << 0);
+    pub const SIGNAL: Rights = Rights(1 << 1);
 
     /// Every file system right.
     pub const ALL: Rights = Rights(0xffff);

@@ -141,7 +141,7 @@ pub fn masks(level: u64, random: &mut Random) -> Masks {
     } else {
         0
     };
-    let scope = if random.chance(20) {
+    let scope = if random.chance(25) {
         random.number()
     } else {
         0

@@ -12,7 +12,7 @@ use std::fmt;
 use Refusal::*;
 
 /// The refusals of each call, after the one for tables that aren't sound.
-const REFUSALS: [(&str, &[Refusal]); 18] = [
+const REFUSALS: [(&str, &[Refusal]); 20] = [
     ("fresh", &[WrongLength, UnknownLevel]),
     (
         "create_ruleset",
@@ -92,6 +92,11 @@ const REFUSALS: [(&str, &[Refusal]); 18] = [
             UnknownBit,
             AccessDenied,
         ],
+    ),
+    ("signal", &[ThreadNotLive, TargetNotLive, OutOfScope]),
+    (
+        "abstract_socket",
+        &[ThreadNotLive, TargetNotLive, OutOfScope],
     ),
     (
         "create",

@@ -20,7 +20,7 @@ use std::collections::BTreeMap;
 fn found<B: Broker>(broker: &mut B) -> (Case, Difference) {
     let options = Options {
         seed: 1,
-        calls: 200_000,
+        calls: 500_000,
         seconds: None,
     };
     let case = compare(broker, &options, &mut Tally::default());
@@ -994,7 +994,7 @@ fn rules_in_place_of_entries_are_found() {
             let ruled = keys.iter().filter(|key| layer.rules.contains(**key));
             ruled.count() as u64
         };
-        layers.iter().map(|layer| ruled(layer)).sum()
+        layers.iter().map(|layer| ruled(layer)).max().unwrap_or(0)
     };
     found_counting(rules, 1);
 }
@@ -1032,6 +1032,157 @@ fn rights_that_are_not_handled_are_found() {
         layers.iter().map(wide).max().unwrap_or(0)
     };
     found_counting(unhandled, 1);
+}
+
+/// The scope that a call between threads is for, with its two threads.
+fn reached(call: &Call) -> Option<(Rights, u64, u64)> {
+    match *call {
+        Call::Signal { thread, target } => Some((Rights::SIGNAL, thread, target)),
+        Call::AbstractSocket { thread, target } => {
+            Some((Rights::ABSTRACT_UNIX_SOCKET, thread, target))
+        }
+        _ => None,
+    }
+}
+
+/// The layers of a thread's domain, the youngest first; none where the thread is not live.
+fn domain(model: &Model, thread: u64) -> Vec<usize> {
+    let thread = model.threads.get(&thread);
+    model.domain(thread.and_then(|thread| thread.youngest))
+}
+
+/// Whether a layer handles a scope.
+fn handles(model: &Model, layer: usize, scope: Rights) -> bool {
+    model.layers[&layer].masks.scope.meets(scope)
+}
+
+/// Answers calls between threads by another rule, which is told the scope and the domains of both
+/// threads; the liveness of those in the list is not asked.
+struct Reaching<const N: usize>([Refusal; N], fn(&Model, Rights, [&[usize]; 2]) -> bool);
+
+impl<const N: usize> Broker for Reaching<N> {
+    fn answer(&mut self, tables: &mut Tables, call: &Call) -> Reply {
+        let right = Rereading.answer(tables, call);
+        let (Some((scope, thread, target)), Ok(mut model)) = (reached(call), check(tables)) else {
+            return right;
+        };
+        match model.answer(call).0 {
+            Err(refusal) if refusal != Refusal::OutOfScope && !self.0.contains(&refusal) => right,
+            _ => {
+                let domains = [thread, target].map(|thread| domain(&model, thread));
+                let reaches = (self.1)(&model, scope, domains.each_ref().map(Vec::as_slice));
+                let answer = if reaches {
+                    Ok(0)
+                } else {
+                    Err(Refusal::OutOfScope)
+                };
+                Reply::of(answer, Vec::new())
+            }
+        }
+    }
+}
+
+/// The rule of request W10.
+fn reaches(model: &Model, scope: Rights, [from, to]: [&[usize]; 2]) -> bool {
+    let mut handling = from.iter().filter(|layer| handles(model, **layer, scope));
+    handling.all(|layer| to.contains(layer))
+}
+
+/// A short case of so many layers, to which the two sides answer these numbers.
+fn found_reaching<B: Broker>(mut broker: B, layers: usize, answers: [u64; 2]) {
+    let (case, difference) = found(&mut broker);
+    let text = scenario(&case, &difference);
+    assert!(is_short(&case), "{text}");
+    assert_eq!(layers_of(&case).len(), layers, "{text}");
+    let numbers = [difference.broker.number, difference.model.number];
+    assert_eq!(numbers, answers, "{text}");
+    assert!(difference.cells.is_empty(), "{text}");
+}
+
+const EPERM: u64 = (Errno::EPERM as u64).wrapping_neg();
+const ESRCH: u64 = (Errno::ESRCH as u64).wrapping_neg();
+
+#[test]
+fn a_look_at_the_youngest_layers_alone_is_found() {
+    let callers_youngest = |model: &Model, scope, [from, to]: [&[usize]; 2]| {
+        let youngest = from.len().min(1);
+        reaches(model, scope, [&from[..youngest], to])
+    };
+    found_reaching(Reaching([], callers_youngest), 2, [0, EPERM]);
+    let targets_youngest = |model: &Model, scope, [from, to]: [&[usize]; 2]| {
+        let youngest = to.len().min(1);
+        reaches(model, scope, [from, &to[..youngest]])
+    };
+    found_reaching(Reaching([], targets_youngest), 2, [EPERM, 0]);
+    let the_same = |_: &Model, _, [from, to]: [&[usize]; 2]| from.first() == to.first();
+    found_reaching(Reaching([], the_same), 1, [EPERM, 0]);
+}
+
+#[test]
+fn the_subset_reversed_is_found() {
+    let reversed =
+        |model: &Model, scope, [from, to]: [&[usize]; 2]| reaches(model, scope, [to, from]);
+    let (case, difference) = found(&mut Reaching([], reversed));
+    let text = scenario(&case, &difference);
+    assert!(is_short(&case), "{text}");
+    assert_eq!(layers_of(&case).len(), 1, "{text}");
+}
+
+#[test]
+fn one_layer_in_common_is_found() {
+    let common = |model: &Model, scope, [from, to]: [&[usize]; 2]| {
+        reaches(model, scope, [from, to]) || from.iter().any(|layer| to.contains(layer))
+    };
+    found_reaching(Reaching([], common), 2, [0, EPERM]);
+}
+
+#[test]
+fn layers_that_do_not_handle_the_scope_are_found() {
+    let all = |_: &Model, _, [from, to]: [&[usize]; 2]| from.iter().all(|layer| to.contains(layer));
+    found_reaching(Reaching([], all), 1, [EPERM, 0]);
+}
+
+#[test]
+fn the_other_scope_is_found() {
+    let other = |model: &Model, scope: Rights, domains: [&[usize]; 2]| {
+        reaches(model, Rights::SCOPES.without(scope), domains)
+    };
+    let (case, difference) = found(&mut Reaching([], other));
+    let text = scenario(&case, &difference);
+    assert!(is_short(&case), "{text}");
+    assert_eq!(layers_of(&case).len(), 1, "{text}");
+    let either = |model: &Model, _, domains: [&[usize]; 2]| reaches(model, Rights::SCOPES, domains);
+    found_reaching(Reaching([], either), 1, [EPERM, 0]);
+}
+
+#[test]
+fn a_target_that_is_not_live_is_found() {
+    found_reaching(
+        Reaching([Refusal::TargetNotLive], |_, _, _| true),
+        0,
+        [0, ESRCH],
+    );
+    found_reaching(Reaching([Refusal::TargetNotLive], reaches), 0, [0, ESRCH]);
+    found_reaching(Reaching([Refusal::ThreadNotLive], reaches), 0, [0, ESRCH]);
+}
+
+/// Tests the scope before that the target is live.
+struct ScopeFirst;
+
+impl Broker for ScopeFirst {
+    fn answer(&mut self, tables: &mut Tables, call: &Call) -> Reply {
+        let mut unasked = Reaching([Refusal::TargetNotLive], reaches);
+        let reply = unasked.answer(&mut tables.clone(), call);
+        match reply.number {
+            EPERM => reply,
+            _ => Rereading.answer(tables, call),
+        }
+    }
+}
+
+#[test]
+fn a_scope_before_a_target_that_is_not_live_is_found() {
+    found_reaching(ScopeFirst, 1, [EPERM, ESRCH]);
 }
 
 /// Looks at the first bytes of an attribute alone.

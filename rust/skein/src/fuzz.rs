@@ -289,6 +289,8 @@ const CALLS: &[(&str, usize)] = &[
     ("set_admin", 2),
     ("access", 3),
     ("port", 3),
+    ("signal", 2),
+    ("abstract_socket", 2),
     ("create", 3),
     ("remove", 2),
     ("link", 3),

@@ -23,8 +23,9 @@ Commands
            not allow is marked DIFFERS.
   explain  plays FILE without printing it, then draws the tree it leaves, with
            what each thread may do at each entry and port, asked of the broker
-           right by right, and who holds each layer. If an answer differs, it
-           says which and draws nothing.
+           right by right, who holds each layer, and which threads reach which
+           by each scope that some layer handles. If an answer differs, it says
+           which and draws nothing.
   demo     shows document 01's worked tree as explain does, and plays its
            worked cases.
 
@@ -54,8 +55,8 @@ Format (in full: docs/SCENARIO.md)
   rules an access must read.
 
   Tables start fresh at level 6. A number is decimal or hexadecimal (0x1f). An
-  entry, ruleset or thread is a number or a bound name; root is entry 0, main
-  is thread 0.
+  entry, ruleset or thread (a TARGET too) is a number or a bound name; root is
+  entry 0, main is thread 0.
 
     fresh LEVEL
     create_ruleset [fs=RIGHTS] [net=RIGHTS] [scope=RIGHTS] [size=N] [flags=N]
@@ -71,6 +72,8 @@ Format (in full: docs/SCENARIO.md)
     set_admin THREAD ON
     access THREAD ENTRY RIGHTS
     port THREAD PORT RIGHTS
+    signal THREAD TARGET
+    abstract_socket THREAD TARGET
     create THREAD DIRECTORY KIND
     remove THREAD ENTRY
     link THREAD SOURCE DIRECTORY

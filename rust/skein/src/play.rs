@@ -83,6 +83,14 @@ pub fn play(scenario: &Scenario) -> Play<'_> {
     }
 }
 
+/// Whether a thread may reach another one by a scope.
+pub fn reach(tables: &Tables, scope: Scopes, thread: Thread, target: Thread) -> Result<(), Errno> {
+    match scope {
+        Scopes::SIGNAL => tables.signal(thread, target),
+        _ => tables.abstract_socket(thread, target),
+    }
+}
+
 /// A success that makes nothing, or a refusal.
 fn done(result: Result<(), Errno>) -> Answer {
     result.map_or_else(Answer::Refused, |()| Answer::Done)
@@ -245,6 +253,10 @@ impl Player {
             ThreadCall::End => done(self.tables.end(thread)),
             ThreadCall::SetNoNewPrivs => done(self.tables.set_no_new_privs(thread)),
             ThreadCall::SetAdmin { on } => done(self.tables.set_admin(thread, *on)),
+            ThreadCall::Reach { scope, target } => {
+                let target = self.thread(target)?;
+                done(reach(&self.tables, *scope, thread, target))
+            }
             ThreadCall::Access { entry, rights } => {
                 let entry = self.entry(entry)?;
                 return Ok(accessed(self.tables.judge(thread, entry, *rights)));

@@ -86,6 +86,9 @@ pub fn reason(played: &Played) -> Option<String> {
             "a rule on the root asks for a right to change something"
         }
         (Call::Thread { .. }, Errno::EBUSY) => "the only live thread does not end",
+        (Call::Thread { .. }, Errno::EPERM) => {
+            "a layer that handles the scope is not one of the target's"
+        }
         _ => errno.description(),
     };
     Some(format!("{errno}: {reason}"))

@@ -58,7 +58,7 @@ entry      no  kind       object
 root        0  directory  0
 └─ pipe     1  fifo       1
 
-No layer handles a right: every thread may do everything.
+No layer handles a right at entries: every thread may do everything there.
 
 ports of  port   bind_tcp  connect_tcp
 main      other  +         +
@@ -117,7 +117,7 @@ fn json_has_the_differing_calls_and_nothing_to_draw() {
     assert_eq!(call.at("expected"), &Value::Null);
     assert_eq!(call.at("differs"), &Value::Bool(true));
     assert_eq!(document.at("sound"), &Value::Bool(true));
-    for list in ["rights", "entries", "threads"] {
+    for list in ["rights", "entries", "threads", "layers", "scopes"] {
         assert!(document.at(list).list().is_empty(), "{list}");
     }
 }
@@ -327,6 +327,87 @@ ports of";
     assert_eq!(shared.at("children").list(), children);
 }
 
+/// Threads without a layer, within a signal's scope, and within both, one below the other; and one beside them.
+const SCOPED: &str = "\
+create_ruleset scope=signal -> s
+create_ruleset scope=abstract_unix_socket+signal -> both
+set_no_new_privs main
+clone main -> outer
+restrict outer s
+clone outer -> inner
+restrict inner both
+clone main -> other
+restrict other s
+";
+
+#[test]
+fn which_threads_reach_which_is_shown() {
+    let ran = skein_with(&["explain", "-"], SCOPED.as_bytes());
+    let shown = "
+abstract_unix_socket: which thread (row) reaches which (column)
+        main
+        │ outer
+        │ │ inner
+        │ │ │ other
+thread  │ │ │ │
+main    + + + +
+outer   + + + +
+inner   - - + -
+other   + + + +
+
+signal: which thread (row) reaches which (column)
+        main
+        │ outer
+        │ │ inner
+        │ │ │ other
+thread  │ │ │ │
+main    + + + +
+outer   - + + -
+inner   - - + -
+other   - - - +
+";
+    assert!(ran.out.ends_with(shown), "{}", ran.out);
+}
+
+/// What `explain` says of scopes must be what the calls of `run` answer.
+#[test]
+fn scopes_agree_with_the_calls() {
+    let document = json(&skein_with(&["explain", "--json", "-"], SCOPED.as_bytes()).out);
+    let mut asked = SCOPED.to_owned();
+    for scope in document.at("scopes").list() {
+        let call = match scope.at("scope").text() {
+            "abstract_unix_socket" => "abstract_socket",
+            other => other,
+        };
+        for from in scope.at("threads").list() {
+            let thread = from.at("thread").number();
+            expect_reached(&mut asked, &format!("{call} {thread}"), from);
+        }
+    }
+    let ran = skein_with(&["run", "-"], asked.as_bytes());
+    assert_eq!(ran.code, 0, "{}", ran.out);
+    let whole = "41 calls, 32 expectations, 0 differing\n";
+    assert!(ran.out.ends_with(whole), "{}", ran.out);
+}
+
+/// Appends a line for each thread that is reached or not.
+fn expect_reached(lines: &mut String, request: &str, from: &Value) {
+    for (list, answer) in [("granted", "0"), ("denied", "EPERM")] {
+        for target in from.at(list).list() {
+            let target = target.number();
+            lines.push_str(&format!("{request} {target} => {answer}\n"));
+        }
+    }
+}
+
+#[test]
+fn a_scope_that_no_layer_handles_is_not_shown() {
+    let text = SCOPED.replace("scope=abstract_unix_socket+signal", "scope=signal");
+    let ran = skein_with(&["explain", "-"], text.as_bytes());
+    assert!(ran.out.contains("\nsignal: "), "{}", ran.out);
+    assert!(!ran.out.contains("abstract_unix_socket"), "{}", ran.out);
+}
+
 #[test]
 fn pictures_fit_in_80_columns() {
     let mut text = String::from("create main root directory -> d0\n");
@@ -338,11 +419,14 @@ fn pictures_fit_in_80_columns() {
         "poke system 1 4294967295\ncreate main root regular -> far\nlink main far 40 -> near\n",
     );
     text.push_str(
-        "create_ruleset fs=0xffff net=3 -> r\nset_admin main on\nset_no_new_privs main\n",
+        "create_ruleset fs=0xffff net=3 scope=3 -> r\nset_admin main on\nset_no_new_privs main\n",
     );
     text.push_str(&format!("clone main -> {}\n", "t".repeat(200)));
     text.push_str(&"restrict main r\n".repeat(16));
     text.push_str(&"restrict 1 r\n".repeat(16));
+    for thread in ["u", "v", "w", "x", "y", "z"] {
+        text.push_str(&format!("clone main -> {}\n", thread.repeat(200)));
+    }
     let ran = skein_with(&["explain", "--all-rights", "-"], text.as_bytes());
     assert_eq!((ran.code, ran.err.as_str()), (0, ""));
     for line in ran.out.lines() {

@@ -273,6 +273,48 @@ set_admin main on => 0
     assert!(refused.out.contains(reason), "{}", refused.out);
 }
 
+/// Thread `inner` is kept within a layer by both scopes.
+const SCOPED: &str = "\
+create_ruleset scope=signal+abstract_unix_socket -> rs => new 0
+set_no_new_privs main => 0
+clone main -> inner => new 1
+restrict inner rs => 0
+";
+
+#[test]
+fn requests_between_threads_are_answered() {
+    let text = format!(
+        "{SCOPED}\
+signal main inner => 0
+signal inner inner => 0
+signal inner main => EPERM
+signal inner 9 => ESRCH
+abstract_socket main inner => 0
+abstract_socket inner main
+"
+    );
+    let ran = skein_with(&["run", "-"], text.as_bytes());
+    let expected = "\
+ 7  signal inner main                                 EPERM           ok
+ 8  signal inner 9                                    ESRCH           ok
+ 9  abstract_socket main inner                        0               ok
+10  abstract_socket inner main                        EPERM
+        DIFFERS: must succeed
+        EPERM: a layer that handles the scope is not one of the target's
+10 calls, 9 expectations, 1 differing: line 10
+";
+    assert!(ran.out.ends_with(expected), "{}", ran.out);
+    let document = json(&skein_with(&["run", "--json", "-"], text.as_bytes()).out);
+    let [.., refused] = document.at("calls").list() else {
+        panic!("some calls");
+    };
+    assert_eq!(refused.at("call").text(), "abstract_socket");
+    assert_eq!(refused.at("answer").text(), "EPERM");
+    assert_eq!(refused.at("errno").number(), 1);
+    assert_eq!(refused.at("layer"), &Value::Null);
+    assert!(refused.at("rights").list().is_empty());
+}
+
 #[test]
 fn json_has_the_documented_fields() {
     let text = "create main root fifo -> p => new 1\nremove main p\nremove main p => 0\n";

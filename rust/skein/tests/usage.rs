@@ -195,7 +195,8 @@ fn help_and_version_are_0() {
         "Exit codes",
         "64",
         "ioctl_dev",
-        "signal",
+        "signal THREAD TARGET",
+        "abstract_socket THREAD TARGET",
         "poke TABLE",
         "Example",
     ] {

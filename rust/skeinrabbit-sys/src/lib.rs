@@ -4,8 +4,8 @@
 //! or 2^64 minus an error number. The crate `skeinrabbit` has a typed interface over these.
 //!
 //! Calls that say more than their number write a report, of any length: the cells that fit are written, with every answer, and
-//! cells past them stay. The report of a request or of a change of the tree is the layer that refuses (its number + 1, or 0 for
-//! none) and its rights; behind these an access reports how many entries' rules it read.
+//! cells past them stay. The report of a request about an entry or a port, or of a change of the tree, is the layer that refuses
+//! (its number + 1, or 0 for none) and its rights; behind these an access reports how many entries' rules it read.
 #![no_std]
 
 pub mod layout;
@@ -164,6 +164,12 @@ calls! {
     /// Sets a thread's admin mark, or clears it where `on` is 0.
     set_admin(tables: &mut Cells, thread, on),
         skein_set_admin[const const const const const mut];
+    /// Whether a thread may signal a thread.
+    signal(tables: SharedCells, thread, target),
+        skein_signal[const const const const const const];
+    /// Whether a thread may reach a thread's abstract UNIX socket.
+    abstract_socket(tables: SharedCells, thread, target),
+        skein_abstract_socket[const const const const const const];
 }
 
 reporting_calls! {

@@ -1,5 +1,5 @@
 //! The calls that change nothing, on tables in memory that cannot be written: a write would end the program.
-use skeinrabbit_sys::{access, layer_rules, port, SharedCells, SIZES};
+use skeinrabbit_sys::{abstract_socket, access, layer_rules, port, signal, SharedCells, SIZES};
 
 const fn cells<const N: usize>(first: [u64; 4]) -> [u64; N] {
     let mut cells = [0; N];
@@ -38,6 +38,11 @@ fn requests_write_no_cell() {
     assert_eq!(access(FRESH, 1, 0, 8, &mut []), ESRCH);
     assert_eq!(port(FRESH, 0, 80, 1, &mut []), 0);
     assert_eq!(layer_rules(FRESH, 0, &mut []), EBADF);
+    for reach in [signal, abstract_socket] {
+        assert_eq!(reach(FRESH, 0, 0), 0);
+        assert_eq!(reach(FRESH, 1, 0), ESRCH);
+        assert_eq!(reach(FRESH, 0, 1), ESRCH);
+    }
 }
 
 /// A call that is given its report.
@@ -73,4 +78,6 @@ fn tables_of_any_length_are_read() {
     assert_eq!(access(short, 0, 0, 8, &mut []), EIO);
     assert_eq!(port(short, 0, 80, 1, &mut []), EIO);
     assert_eq!(layer_rules(short, 0, &mut []), EIO);
+    assert_eq!(signal(short, 0, 0), EIO);
+    assert_eq!(abstract_socket(short, 0, 0), EIO);
 }

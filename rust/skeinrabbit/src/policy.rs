@@ -242,7 +242,7 @@ impl Tables {
 
 /// # Requests
 ///
-/// Where a layer refuses, the refusal says which one and which of the rights it denies.
+/// What a thread may do at an entry or a port. Where a layer refuses, the refusal says which one and which of the rights it denies.
 impl Tables {
     /// Whether a thread may use an entry with all of these rights.
     ///
@@ -335,5 +335,56 @@ impl Tables {
             sys::port(self.shared(), thread.number(), port, rights.bits(), report)
         });
         answer.map(drop)
+    }
+}
+
+/// # Requests between threads
+///
+/// A layer that handles a scope keeps its threads within it: they reach a thread exactly if that one has the layer too. So every
+/// thread reaches itself and its clones, and, where no layer handles the scope, as everywhere below level 6, every thread.
+impl Tables {
+    /// Whether a thread may signal a thread: every layer of its domain that handles [`Scope::SIGNAL`](crate::Scope::SIGNAL) must
+    /// also be one of the target's domain.
+    ///
+    /// Refusals, in order: tables not sound, EIO; thread or target not live, ESRCH; some such layer is not the target's, EPERM.
+    ///
+    /// ```
+    /// # use skeinrabbit::*;
+    /// let mut tables = Tables::new(Level::LATEST)?;
+    /// let worker = tables.clone_thread(Thread::MAIN)?;
+    /// tables.set_no_new_privs(worker)?;
+    /// tables.ruleset().scope(Scope::SIGNAL).create()?.restrict(worker)?;
+    /// let helper = tables.clone_thread(worker)?;
+    /// assert_eq!(tables.signal(worker, Thread::MAIN), Err(Errno::EPERM));
+    /// assert_eq!(tables.signal(worker, helper), Ok(()));
+    /// assert_eq!(tables.signal(worker, worker), Ok(()));
+    /// assert_eq!(tables.signal(Thread::MAIN, worker), Ok(()));
+    /// # Ok::<(), Errno>(())
+    /// ```
+    pub fn signal(&self, thread: Thread, target: Thread) -> Result<(), Errno> {
+        let raw = sys::signal(self.shared(), thread.number(), target.number());
+        Errno::answer(raw).map(drop)
+    }
+
+    /// Whether a thread may reach a thread's abstract UNIX socket: the same as [`Tables::signal`] with
+    /// [`Scope::ABSTRACT_UNIX_SOCKET`](crate::Scope::ABSTRACT_UNIX_SOCKET).
+    ///
+    /// Refusals, in order: tables not sound, EIO; thread or target not live, ESRCH; some such layer is not the target's, EPERM.
+    ///
+    /// ```
+    /// # use skeinrabbit::*;
+    /// let mut tables = Tables::new(Level::LATEST)?;
+    /// let worker = tables.clone_thread(Thread::MAIN)?;
+    /// tables.set_no_new_privs(worker)?;
+    /// tables.ruleset().scope(Scope::ABSTRACT_UNIX_SOCKET).create()?.restrict(worker)?;
+    /// assert_eq!(tables.abstract_socket(worker, Thread::MAIN), Err(Errno::EPERM));
+    /// assert_eq!(tables.signal(worker, Thread::MAIN), Ok(()));
+    /// tables.end(worker)?;
+    /// assert_eq!(tables.abstract_socket(Thread::MAIN, worker), Err(Errno::ESRCH));
+    /// # Ok::<(), Errno>(())
+    /// ```
+    pub fn abstract_socket(&self, thread: Thread, target: Thread) -> Result<(), Errno> {
+        let raw = sys::abstract_socket(self.shared(), thread.number(), target.number());
+        Errno::answer(raw).map(drop)
     }
 }

@@ -297,7 +297,8 @@ impl AccessNet {
 pub type PortRights = AccessNet;
 
 set! {
-    /// What a ruleset keeps within its domain: a set of scopes, which are stored only.
+    /// What a ruleset keeps within its domain: a set of scopes, asked for by [`Tables::abstract_socket`](crate::Tables::abstract_socket)
+    /// and [`Tables::signal`](crate::Tables::signal).
     ///
     /// ```
     /// use skeinrabbit::Scope;

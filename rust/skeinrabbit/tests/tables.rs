@@ -4,7 +4,7 @@ use skeinrabbit::*;
 type Call = fn(&mut Tables, [u64; 5]) -> Result<u64, Errno>;
 
 /// Every call over plain numbers.
-const CALLS: [Call; 18] = [
+const CALLS: [Call; 20] = [
     |t, [a, b, ..]| t.create_ruleset(&a.to_le_bytes(), b).map(Ruleset::number),
     |t, [a, ..]| t.close_ruleset(a.into()).map(|()| 0),
     |t, [a, b, c, d, _]| {
@@ -29,6 +29,8 @@ const CALLS: [Call; 18] = [
         let answer = t.port(a.into(), b, AccessNet::from_bits(c));
         number(t, answer.map(|()| 0))
     },
+    |t, [a, b, ..]| t.signal(a.into(), b.into()).map(|()| 0),
+    |t, [a, b, ..]| t.abstract_socket(a.into(), b.into()).map(|()| 0),
     |t, [a, b, c, ..]| {
         let answer = t.create(a.into(), b.into(), Kind::new(c));
         number(t, answer.map(Entry::number))
@@ -363,6 +365,39 @@ fn threads_of_the_program_ask_at_once() {
             });
         }
     });
+}
+
+/// Threads 1 and 2 have a layer with a scope and a thread each on top of it: 3 on 1, 4 on 2. Thread 0 has none.
+#[test]
+fn a_scope_keeps_a_thread_within_its_layer() {
+    const NONE: [u64; 0] = [];
+    for (scope, other) in [
+        (Scope::SIGNAL, Scope::ABSTRACT_UNIX_SOCKET),
+        (Scope::ABSTRACT_UNIX_SOCKET, Scope::SIGNAL),
+    ] {
+        let mut tables = Tables::new(Level::LATEST).unwrap();
+        tables.set_no_new_privs(Thread::MAIN).unwrap();
+        let scoped = tables.ruleset().scope(scope).create().unwrap().keep();
+        for parent in [0, 0, 1, 2] {
+            let thread = tables.clone_thread(Thread::new(parent)).unwrap();
+            tables.restrict(thread, scoped, 0).unwrap();
+        }
+        let denied = |scope: Scope, thread: u64| {
+            let reach = match scope {
+                Scope::SIGNAL => Tables::signal,
+                _ => Tables::abstract_socket,
+            };
+            let answer = |target: &u64| reach(&tables, thread.into(), (*target).into());
+            let denied = (0..5).filter(|target| answer(target) == Err(Errno::EPERM));
+            denied.collect::<Vec<u64>>()
+        };
+        assert_eq!(denied(scope, 0), NONE);
+        assert_eq!(denied(scope, 1), [0, 2, 4]);
+        assert_eq!(denied(scope, 2), [0, 1, 3]);
+        assert_eq!(denied(scope, 3), [0, 1, 2, 4]);
+        assert_eq!(denied(scope, 4), [0, 1, 2, 3]);
+        assert!((0..5).all(|thread| denied(other, thread) == NONE));
+    }
 }
 
 #[test]

@@ -10,24 +10,24 @@ use Rattle.task.proofs.any_leaves.Statement.{statement}
 use Rattle.task.proofs.any_leaves.Tie as tie
 
 abbrev Inv-loop : tie.InvT-loop
-Inv-loop layers scope y z at₀ n₀ at n = any (escapes layers (scope .0) (chain layers maxDomain z)) (chain layers maxDomain y) ≡ any (escapes layers (scope .0) (chain layers maxDomain z)) (chain layers n at)
+Inv-loop layers scope y z at₀ left₀ at left = any (escapes layers (scope .0) (chain layers maxDomain z)) (chain layers maxDomain y) ≡ any (escapes layers (scope .0) (chain layers maxDomain z)) (chain layers left at)
 
 abbrev μ-loop : tie.MeasureT-loop
-μ-loop layers scope y z at₀ n₀ at n = n
+μ-loop layers scope y z at₀ left₀ at left = left
 
 pub any-leaves-spec : {M : Type 1} → statement M
 any-leaves-spec =
     tie.close
     (tie.spec Inv-loop μ-loop
     (λ c. refl)
-    (λ c. let l = c .before .before .loop in walk-end _ _ (l .n) (l .at) (l .inv) (c .if1 .taken))
+    (λ c. let l = c .before .before .loop in walk-end _ _ (l .left) (l .at) (l .inv) (c .if1 .taken))
     (λ c. omega arith)
     (λ c κs. tt)
     (λ c.
     let h = c .before in
     let b = h .before in
     let l = b .before .before .loop in
-    walk-hit _ _ (l .n) (l .at) (l .inv) (b .if1 .left) (omega arith) (sym (h .leaves .ensures) ∙ c .if2 .taken))
+    walk-hit _ _ (l .left) (l .at) (l .inv) (b .if1 .left) (omega arith) (sym (h .leaves .ensures) ∙ c .if2 .taken))
     (λ c. omega arith)
     (λ c κs. tt)
     (λ c. omega arith)
@@ -37,5 +37,5 @@ any-leaves-spec =
     let h = i .before in
     let b = h .before in
     let l = b .before .before .loop in
-    walk-up _ _ (l .n) (l .at) (l .inv) (b .if1 .left) (omega arith) (sym (h .leaves .ensures) ∙ i .if2 .left) (c .layer-parent .ensures))
-    (λ c. let l = c .before .loop in walk-none _ _ (l .n) (l .at) (l .inv) (omega arith)))
+    walk-up _ _ (l .left) (l .at) (l .inv) (b .if1 .left) (omega arith) (sym (h .leaves .ensures) ∙ i .if2 .left) (c .layer-parent .ensures))
+    (λ c. let l = c .before .loop in walk-none _ _ (l .left) (l .at) (l .inv) (omega arith)))

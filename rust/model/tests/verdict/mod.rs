@@ -62,6 +62,14 @@ fn calls() -> Vec<Call> {
             rights,
             report,
         },
+        Call::Signal {
+            thread,
+            target: thread,
+        },
+        Call::AbstractSocket {
+            thread,
+            target: thread,
+        },
         Call::Create {
             thread,
             directory,

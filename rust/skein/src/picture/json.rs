@@ -1,16 +1,17 @@
 //! The picture as JSON.
-use super::{Explained, Held, LayerView, Node, PortView, ThreadView};
+use super::{Explained, Held, LayerView, Node, PortView, ScopeView, ThreadView};
 use crate::json::Json;
 use crate::play::Play;
 use crate::transcript::{call_json, rights_json};
 use skeinrabbit::{Entry, Layer};
 
-/// The members of the JSON document of `skein explain`; no entries, threads and layers where there is no picture.
+/// The members of the JSON document of `skein explain`; its lists are empty where there is no picture.
 pub fn json(file: &str, play: &Play, explained: &Explained) -> Json {
     let picture = explained.picture.as_ref();
     let nodes = picture.map_or(&[][..], |picture| &picture.nodes);
     let threads = picture.map_or(&[][..], |picture| &picture.threads);
     let layers = picture.map_or(&[][..], |picture| &picture.layers);
+    let scopes = picture.map_or(&[][..], |picture| &picture.scopes);
     let columns = picture.map(|picture| picture.columns).unwrap_or_default();
     Json::Object(vec![
         ("command", Json::text("explain")),
@@ -25,6 +26,10 @@ pub fn json(file: &str, play: &Play, explained: &Explained) -> Json {
             Json::list(threads, |view| thread_json(view, nodes)),
         ),
         ("layers", Json::list(layers, layer_json)),
+        (
+            "scopes",
+            Json::list(scopes, |view| scope_json(view, threads)),
+        ),
     ])
 }
 
@@ -85,6 +90,32 @@ fn layer_json(view: &LayerView) -> Json {
             "children",
             Json::list(&view.children, |layer| Json::Number(layer.number())),
         ),
+    ])
+}
+
+fn scope_json(view: &ScopeView, threads: &[ThreadView]) -> Json {
+    let rows = threads.iter().zip(&view.reached);
+    Json::Object(vec![
+        ("scope", Json::text(view.scope.to_string())),
+        (
+            "threads",
+            Json::list(rows, |(from, reached)| reached_json(from, reached, threads)),
+        ),
+    ])
+}
+
+/// The threads that one reaches, and those that it doesn't.
+fn reached_json(from: &ThreadView, reached: &[bool], threads: &[ThreadView]) -> Json {
+    let number = |view: &ThreadView| Json::Number(view.row.thread.number());
+    let which = |granted: bool| {
+        let targets = threads.iter().zip(reached);
+        let targets = targets.filter(|(_, reached)| **reached == granted);
+        Json::list(targets, |(target, _)| number(target))
+    };
+    Json::Object(vec![
+        ("thread", number(from)),
+        ("granted", which(true)),
+        ("denied", which(false)),
     ])
 }
 

@@ -7,10 +7,11 @@ pub use json::json;
 pub use text::text;
 pub use tree::Node;
 
-use crate::play::{Play, Player};
+use crate::play::{reach, Play, Player};
 use crate::scenario::Space;
 use skeinrabbit::{
-    EntryRow, Layer, LayerRow, Level, PortRights, Refusal, Rights, Rule, Tables, Thread, ThreadRow,
+    EntryRow, Layer, LayerRow, Level, PortRights, Refusal, Rights, Rule, Scopes, Tables, Thread,
+    ThreadRow,
 };
 use std::collections::{BTreeMap, BTreeSet};
 use std::ops::BitOrAssign;
@@ -47,6 +48,8 @@ pub struct Picture {
     pub threads: Vec<ThreadView>,
     /// The layers in use, lowest number first.
     pub layers: Vec<LayerView>,
+    /// The scopes that some layer handles.
+    pub scopes: Vec<ScopeView>,
 }
 
 /// What a thread may do.
@@ -67,6 +70,13 @@ pub struct LayerView {
     pub threads: Vec<Thread>,
     /// The layers whose parent it is.
     pub children: Vec<Layer>,
+}
+
+/// Which threads reach which, by a scope.
+pub struct ScopeView {
+    pub scope: Scopes,
+    /// For each thread whether it reaches each one, both in the order of the threads.
+    pub reached: Vec<Vec<bool>>,
 }
 
 /// What is granted and what is denied, of what was asked.
@@ -128,6 +138,7 @@ impl Picture {
             nodes,
             threads,
             layers: layer_views(&player.tables),
+            scopes: scope_views(&player.tables),
         }
     }
 }
@@ -159,6 +170,24 @@ fn layer_views(tables: &Tables) -> Vec<LayerView> {
         }
     });
     views.collect()
+}
+
+/// Every thread asked for every thread, by each scope that some layer handles.
+fn scope_views(tables: &Tables) -> Vec<ScopeView> {
+    let scopes = tables.layers().map(|row| row.attribute.scope);
+    let handled = scopes.fold(Scopes::NONE, |all, scopes| all | scopes);
+    let reached_from = |scope, from: ThreadRow| -> Vec<bool> {
+        let reached = |to: ThreadRow| reach(tables, scope, from.thread, to.thread).is_ok();
+        tables.threads().map(reached).collect()
+    };
+    let view = |scope| ScopeView {
+        scope,
+        reached: tables
+            .threads()
+            .map(|from| reached_from(scope, from))
+            .collect(),
+    };
+    handled.iter().map(view).collect()
 }
 
 /// The rights that a thread has at an entry. They are asked one by one only where not all are granted.

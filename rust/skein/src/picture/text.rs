@@ -1,12 +1,15 @@
 //! The picture in plain text.
-use super::{Explained, Held, LayerView, Node, Picture, ThreadView};
+use super::{Explained, Held, LayerView, Node, Picture, ScopeView, ThreadView};
 use crate::lines::broken;
 use crate::paint::Paint;
 use crate::words::shown;
 use skeinrabbit::{PortRights, Rights};
+use std::fmt::Display;
 
 /// The widest name of a thread.
 const WIDEST_THREAD: usize = 40;
+/// The same where names stand at two sides of a matrix.
+const WIDEST_REACHED: usize = 30;
 
 /// The picture, or why there is none. Where an answer differs, messages say so.
 pub fn text(explained: &Explained, width: usize, paint: Paint) -> String {
@@ -17,13 +20,15 @@ pub fn text(explained: &Explained, width: usize, paint: Paint) -> String {
     }
 }
 
-/// The tree with a matrix of rights for each thread, then the layers and the ports.
+/// The tree with a matrix of rights for each thread, then the layers, the ports and the scopes.
 fn picture_text(picture: &Picture, width: usize, paint: Paint) -> String {
     let left = Left::of(picture, width);
     let mut out = String::new();
     if picture.columns.is_empty() {
         out.push_str(&left.matrix(picture, None, paint));
-        out.push_str("\nNo layer handles a right: every thread may do everything.\n");
+        out.push_str(
+            "\nNo layer handles a right at entries: every thread may do everything there.\n",
+        );
     } else {
         for view in &picture.threads {
             out.push_str(&heading(&thread_line(view), width, paint));
@@ -40,6 +45,9 @@ fn picture_text(picture: &Picture, width: usize, paint: Paint) -> String {
     }
     out.push_str(&layers(picture, width, paint));
     out.push_str(&ports(picture, paint));
+    for view in &picture.scopes {
+        out.push_str(&scope(view, &picture.threads, width, paint));
+    }
     out
 }
 
@@ -74,8 +82,12 @@ fn thread_line(view: &ThreadView) -> String {
 
 /// A thread's name, or else its number.
 fn label(view: &ThreadView) -> String {
+    label_within(view, WIDEST_THREAD)
+}
+
+fn label_within(view: &ThreadView, widest: usize) -> String {
     let number = || view.row.thread.to_string();
-    shown(&view.name.clone().unwrap_or_else(number), WIDEST_THREAD)
+    shown(&view.name.clone().unwrap_or_else(number), widest)
 }
 
 /// Whether the lines that lead to an entry leave room for its name, or for the beginning of a long one.
@@ -148,15 +160,8 @@ impl Left {
     fn matrix(&self, picture: &Picture, view: Option<&ThreadView>, paint: Paint) -> String {
         let rights: Vec<Rights> = picture.columns.iter().collect();
         let blank = self.line("", "", "", "");
-        let mut out = String::new();
-        for (place, right) in rights.iter().enumerate() {
-            out.push_str(&format!("{blank}  {}{right}\n", "│ ".repeat(place)));
-        }
         let heading = self.line("entry", "no", "kind", "object");
-        push_trimmed(
-            &mut out,
-            &format!("{heading}  {}", "│ ".repeat(rights.len())),
-        );
+        let mut out = stairs(&blank, &heading, &rights);
         for (place, node) in picture.nodes.iter().enumerate() {
             let number = node.row.entry.to_string();
             let kind = node.row.kind.to_string();
@@ -179,6 +184,17 @@ impl Left {
         }
         out
     }
+}
+
+/// The names of a matrix's columns, one below the other, then the heading of what stands left of it.
+fn stairs(blank: &str, heading: &str, names: &[impl Display]) -> String {
+    let mut out = String::new();
+    for (place, name) in names.iter().enumerate() {
+        out.push_str(&format!("{blank}  {}{name}\n", "│ ".repeat(place)));
+    }
+    let columns = "│ ".repeat(names.len());
+    push_trimmed(&mut out, &format!("{heading}  {columns}"));
+    out
 }
 
 fn push_trimmed(out: &mut String, line: &str) {
@@ -232,19 +248,38 @@ fn ports(picture: &Picture, paint: Paint) -> String {
     for view in &picture.threads {
         for at in &view.ports {
             let port = at.port.map_or("other".to_owned(), |port| port.to_string());
-            let sign = |right: PortRights| {
-                if at.held.granted.contains(right) {
-                    paint.granted("+")
-                } else {
-                    paint.denied("-")
-                }
-            };
+            let sign = |right: PortRights| sign(at.held.granted.contains(right), paint);
             let (bind, connect) = (sign(PortRights::BIND_TCP), sign(PortRights::CONNECT_TCP));
             let label = label(view);
             out.push_str(&format!(
                 "{label:<width$}  {port:<5}  {bind}         {connect}\n"
             ));
         }
+    }
+    out
+}
+
+fn sign(granted: bool, paint: Paint) -> String {
+    if granted {
+        paint.granted("+")
+    } else {
+        paint.denied("-")
+    }
+}
+
+/// A line for each thread with what it reaches by a scope, a column for each thread.
+fn scope(view: &ScopeView, threads: &[ThreadView], width: usize, paint: Paint) -> String {
+    let names = threads.iter();
+    let names: Vec<String> = names.map(|to| label_within(to, WIDEST_REACHED)).collect();
+    let widths = names.iter().map(|name| name.chars().count());
+    let left = widths.max().unwrap_or(0).max("thread".len());
+    let title = format!("{}: which thread (row) reaches which (column)", view.scope);
+    let mut out = format!("\n{}", heading(&title, width, paint));
+    let [blank, first] = ["", "thread"].map(|text| format!("{text:<left$}"));
+    out.push_str(&stairs(&blank, &first, &names));
+    for (name, reached) in names.iter().zip(&view.reached) {
+        let signs: Vec<String> = reached.iter().map(|to| sign(*to, paint)).collect();
+        out.push_str(&format!("{name:<left$}  {}\n", signs.join(" ")));
     }
     out
 }

@@ -1,6 +1,6 @@
 //! The calls and their arguments.
 use super::names::Operand;
-use skeinrabbit::{Attribute, Kind, Layer, Level, PortRights, Rights, Table};
+use skeinrabbit::{Attribute, Kind, Layer, Level, PortRights, Rights, Scopes, Table};
 
 /// A call with its arguments.
 #[derive(Debug, PartialEq, Eq)]
@@ -65,6 +65,7 @@ pub enum ThreadCall {
     SetAdmin { on: bool },
     Access { entry: Operand, rights: Rights },
     Port { port: u64, rights: PortRights },
+    Reach { scope: Scopes, target: Operand },
 }
 
 /// A thread's call that changes the tree.

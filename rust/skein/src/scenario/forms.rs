@@ -7,7 +7,7 @@ use super::poke::poke;
 use super::report::Sort;
 use super::Bad;
 use crate::words::one_of;
-use skeinrabbit::{parse_number, Layer, Level};
+use skeinrabbit::{parse_number, Layer, Level, Scopes};
 
 /// A call as it is written.
 pub struct Form {
@@ -43,7 +43,7 @@ const CREATE_RULESET: &str =
     "create_ruleset [fs=RIGHTS] [net=RIGHTS] [scope=RIGHTS] [size=N] [flags=N]` \
     or `create_ruleset hex=BYTES [flags=N]";
 
-static FORMS: [Form; 19] = [
+static FORMS: [Form; 21] = [
     form("fresh LEVEL", None, fresh),
     form(CREATE_RULESET, Some(Space::Ruleset), create_ruleset),
     form("close_ruleset RULESET", None, close_ruleset),
@@ -65,6 +65,8 @@ static FORMS: [Form; 19] = [
     form("set_admin THREAD ON", None, set_admin),
     judged("access THREAD ENTRY RIGHTS", None, Sort::Access, access),
     judged("port THREAD PORT RIGHTS", None, Sort::Port, port),
+    form("signal THREAD TARGET", None, signal),
+    form("abstract_socket THREAD TARGET", None, abstract_socket),
     judged(
         "create THREAD DIRECTORY KIND",
         Some(Space::Entry),
@@ -203,6 +205,21 @@ fn port(arguments: &mut Arguments) -> Result<Call, Bad> {
         port: arguments.number("a port")?,
         rights: arguments.value()?,
     };
+    Ok(Call::Thread { thread, call })
+}
+
+fn signal(arguments: &mut Arguments) -> Result<Call, Bad> {
+    reach(arguments, Scopes::SIGNAL)
+}
+
+fn abstract_socket(arguments: &mut Arguments) -> Result<Call, Bad> {
+    reach(arguments, Scopes::ABSTRACT_UNIX_SOCKET)
+}
+
+fn reach(arguments: &mut Arguments, scope: Scopes) -> Result<Call, Bad> {
+    let thread = arguments.thread()?;
+    let target = arguments.thread()?;
+    let call = ThreadCall::Reach { scope, target };
     Ok(Call::Thread { thread, call })
 }
 

@@ -267,6 +267,23 @@ fn the_admin_mark_is_a_word_or_a_number() {
 }
 
 #[test]
+fn a_target_is_a_thread() {
+    for (call, scope) in [
+        ("signal", Scopes::SIGNAL),
+        ("abstract_socket", Scopes::ABSTRACT_UNIX_SOCKET),
+    ] {
+        for (words, thread, target) in [
+            ("3 main => EPERM", number(3), name("main")),
+            ("main 9", name("main"), number(9)),
+        ] {
+            let read = statement(&format!("{call} {words}")).call;
+            let call = ThreadCall::Reach { scope, target };
+            assert_eq!(read, Call::Thread { thread, call });
+        }
+    }
+}
+
+#[test]
 fn pokes_stay_in_their_table() {
     let poke = Call::Poke {
         table: Table::Threads,
@@ -393,6 +410,17 @@ const MISTAKES: &[(&str, &str, &str)] = &[
     ("-> x", "no call", "a call before"),
     ("clone", "too few words", "`clone THREAD`"),
     ("clone main main", "`main`", "no more than `clone THREAD`"),
+    ("signal main", "too few words", "`signal THREAD TARGET`"),
+    (
+        "signal main root",
+        "`root`",
+        "the thread's number, or a name",
+    ),
+    (
+        "signal main main => 0 layer=none",
+        "`layer=none`",
+        "the end of the line",
+    ),
     (
         "clone other",
         "`other`",
