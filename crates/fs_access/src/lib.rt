@@ -5,7 +5,6 @@ use access::rights::Rights;
 use tables::rows::entry_live;
 use tables::rows::past_file_set;
 use tables::rows::thread_live;
-use verdict::Question;
 use verdict::thread_judged;
 ghost use mathlib.Core.Path.{_≡_};
 ghost use Rattle.laws.specs.Refusals.{first};
@@ -76,7 +75,7 @@ pub fn access(
             read: 0,
         };
     }
-    let judged = thread_judged(entries, layers, pool, threads, t, Question::Entry(e, asked));
+    let judged = thread_judged(entries, layers, pool, threads, t, e, asked);
     let denial = judged.denial;
     Accessed {
         reply: denial.reply(),

@@ -24,39 +24,49 @@ pub fn own_rights(entries: &[u64], rules: &[u64], e: u64) -> Rights
     rights_on(rules, PATH_RULE, object_of(entries, e))
 }
 
+// Climbs from the entry until none of the rights is missing, or to the root; `left` climbs are left. The rights that no rule on the way grants
+// are the answer, and `read` becomes the number of entries whose rules were read. What a call hands on fits in registers: references to the
+// slices, and numbers.
+pub fn climb(
+    entries: &&[u64],
+    rules: &&[u64],
+    e: u64,
+    asked: Rights,
+    left: usize,
+    read: &mut u64,
+) -> u64
+    requires { ⌜ left ≤ maxEntries ⌝ }
+    ensures missing { λ r. ⌜ r ≡ without (asked .0) (grants (now (now (entries .entry))) (now (now (rules .entry))) left e) ⌝ }
+    ensures read { λ r. ⌜ now (read .exit) ≡ maxEntries - left + readUp (now (now (entries .entry))) (now (now (rules .entry))) left e (asked .0) ⌝ }
+{
+    let before = (MAX_ENTRIES - left) as u64;
+    if asked.is_empty() {
+        *read = before;
+        return asked.0;
+    }
+    let missing = asked.without(own_rights(*entries, *rules, e));
+    if e == 0 {
+        *read = before + 1;
+        return missing.0;
+    }
+    if left == 0 {
+        *read = before + 1;
+        return missing.0;
+    }
+    climb(
+        entries,
+        rules,
+        parent_of(*entries, e),
+        missing,
+        left - 1,
+        read,
+    )
+}
+
 // What a climb from an entry finds: the rights that no rule on the way grants, and how many entries' rules it read.
 pub struct Climbed {
     pub missing: Rights,
     pub read: u64,
-}
-
-// Climbs from the entry until none of the rights is missing, or to the root; `left` climbs are left.
-pub fn climb(entries: &[u64], rules: &[u64], e: u64, asked: Rights, left: usize) -> Climbed
-    requires { ⌜ left ≤ maxEntries ⌝ }
-    ensures missing { λ r. ⌜ r .missing .0 ≡ without (asked .0) (grants (now (entries .entry)) (now (rules .entry)) left e) ⌝ }
-    ensures read { λ r. ⌜ r .read ≡ maxEntries - left + readUp (now (entries .entry)) (now (rules .entry)) left e (asked .0) ⌝ }
-{
-    let read = (MAX_ENTRIES - left) as u64;
-    if asked.is_empty() {
-        return Climbed {
-            missing: asked,
-            read,
-        };
-    }
-    let missing = asked.without(own_rights(entries, rules, e));
-    if e == 0 {
-        return Climbed {
-            missing,
-            read: read + 1,
-        };
-    }
-    if left == 0 {
-        return Climbed {
-            missing,
-            read: read + 1,
-        };
-    }
-    climb(entries, rules, parent_of(entries, e), missing, left - 1)
 }
 
 // The rights that a file system mask handles: REFER unasked, unless it is empty.
@@ -82,13 +92,19 @@ pub fn layer_climb(
     ensures read { λ r. ⌜ r .read ≡ layerReads (now (entries .entry)) (layerAt (now (layers .entry)) (now (pool .entry)) l) e (asked .0) ⌝ }
 {
     let rules = layer_rules(layers, pool, l);
-    climb(
-        entries,
-        rules,
+    let mut read = 0;
+    let missing = climb(
+        &entries,
+        &rules,
         e,
         asked.meet(handled_by(layer_fs(layers, l))),
         MAX_ENTRIES,
-    )
+        &mut read,
+    );
+    Climbed {
+        missing: Rights(missing),
+        read,
+    }
 }
 
 // Of the rights asked for at a port, those that the layer denies.

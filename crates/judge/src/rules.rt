@@ -11,43 +11,52 @@ use tables::rows::layer_count;
 use tables::rows::layer_first;
 use tables::rows::ruleset_count;
 ghost use mathlib.Core.Path.{_≡_};
-ghost use Prim.Native.Nat.{_*_, _/_, _<_, min};
+ghost use Prim.Native.Nat.{_+_, _*_, _/_, _≤_, min};
 ghost use lib.ListN.{length};
 ghost use Rattle.tables.specs.Tables.{ruleWidth};
 ghost use Rattle.tables.specs.Layers.{layerAt, rulesetAt};
 ghost use Rattle.judge.specs.Rules.{isRule, rulePlace, rightsOn};
 
-fn is_rule(rules: &[u64], ty: u64, key: u64, i: usize) -> bool
-    requires { ⌜ i < length (now rules) / ruleWidth ⌝ }
-    ensures { λ r. ⌜ r ≡ isRule (now (rules .entry)) ty key i ⌝ }
+// The rule whose cells start at `at` is of the type and for the key.
+fn is_rule(rules: &[u64], ty: u64, key: u64, at: usize) -> bool
+    requires start { ⌜ at ≡ ruleWidth * (at / ruleWidth) ⌝ }
+    requires room { ⌜ at + ruleWidth ≤ length (now rules) ⌝ }
+    ensures { λ r. ⌜ r ≡ isRule (now (rules .entry)) ty key (at / ruleWidth) ⌝ }
 {
-    if rules[RULE_WIDTH * i + RULE_KEY] != key {
+    if rules[at + RULE_KEY] != key {
         return false;
     }
-    rules[RULE_WIDTH * i] == ty
+    rules[at] == ty
+}
+
+// Where the cells of the rule for a key start; past all rules if there is none.
+fn rule_start(rules: &[u64], ty: u64, key: u64) -> usize
+    ensures { λ r. ⌜ r ≡ ruleWidth * rulePlace (now (rules .entry)) ty key ⌝ }
+{
+    let end = RULE_WIDTH * (rules.len() / RULE_WIDTH);
+    let mut at = 0;
+    while at < end {
+        if is_rule(rules, ty, key, at) {
+            return at;
+        }
+        at += RULE_WIDTH;
+    }
+    end
 }
 
 // Where the rule for a key stands; the number of rules if there is none.
 pub fn rule_place(rules: &[u64], ty: u64, key: u64) -> usize
     ensures { λ r. ⌜ r ≡ rulePlace (now (rules .entry)) ty key ⌝ }
 {
-    let n = rules.len() / RULE_WIDTH;
-    let mut i = 0;
-    while i < n {
-        if is_rule(rules, ty, key, i) {
-            return i;
-        }
-        i += 1;
-    }
-    n
+    rule_start(rules, ty, key) / RULE_WIDTH
 }
 
 // The rights that its rule gives a key; none if there is no rule.
 pub fn rights_on(rules: &[u64], ty: u64, key: u64) -> Rights
     ensures { λ r. ⌜ r .0 ≡ rightsOn (now (rules .entry)) ty key ⌝ }
 {
-    let i = rule_place(rules, ty, key);
-    Rights(read(rules, RULE_WIDTH * i + RULE_RIGHTS))
+    let at = rule_start(rules, ty, key);
+    Rights(read(rules, at + RULE_RIGHTS))
 }
 
 // Three times a number of rules, and at most `most`.

@@ -3,8 +3,8 @@ use access::limits::MAX_ENTRIES;
 use access::rights::Rights;
 use tables::rows::PATH_RULE;
 use tree::Replaced;
-use verdict::Question;
-use verdict::thread_denial;
+use verdict::move_denial;
+use verdict::thread_judged;
 ghost use mathlib.Core.Path.{_≡_};
 ghost use mathlib.Core.Bool.{cond};
 ghost use Rattle.access.specs.Rights.{without};
@@ -32,9 +32,8 @@ pub extern "C" fn skein_measure_rights_on(rules: &[u64], object: u64) -> u64
 pub extern "C" fn skein_measure_missing(entries: &[u64], rules: &[u64], e: u64, asked: u64) -> u64
     ensures { λ r. ⌜ r ≡ without asked (grants (now (entries .entry)) (now (rules .entry)) maxEntries e) ⌝ }
 {
-    judge::climb::climb(entries, rules, e, Rights(asked), MAX_ENTRIES)
-        .missing
-        .0
+    let mut read = 0;
+    judge::climb::climb(&entries, &rules, e, Rights(asked), MAX_ENTRIES, &mut read)
 }
 
 #[no_mangle]
@@ -49,8 +48,8 @@ pub extern "C" fn skein_measure_access(
 ) -> u64
     ensures { λ r. ⌜ r ≡ first (lacks (now (entries .entry)) (now (layers .entry)) (now (pool .entry)) (domain (now (layers .entry)) (now (threads .entry)) t) e asked ⇒ EACCES ∷ []) ⌝ }
 {
-    let q = Question::Entry(e, Rights(asked));
-    thread_denial(entries, layers, pool, threads, t, q).refusal()
+    let denial = thread_judged(entries, layers, pool, threads, t, e, Rights(asked)).denial;
+    denial.refusal()
 }
 
 #[no_mangle]
@@ -65,8 +64,8 @@ pub extern "C" fn skein_measure_rename(
 ) -> u64
     ensures { λ r. ⌜ r ≡ first (verdict (now (entries .entry)) (now (layers .entry)) (now (pool .entry)) (domain (now (layers .entry)) (now (threads .entry)) t) (renameMove (now (entries .entry)) s d None)) ⌝ }
 {
-    let q = Question::Move(tree_moves::rename_move(entries, s, d, Replaced::None));
-    thread_denial(entries, layers, pool, threads, t, q).refusal()
+    let m = tree_moves::rename_move(entries, s, d, Replaced::None);
+    move_denial(entries, layers, pool, threads, t, m).refusal()
 }
 
 #[no_mangle]

@@ -11,7 +11,7 @@ use tree::entries::same_object;
 use tree_moves::exchange_move;
 use verdict::Denial;
 use verdict::Question;
-use verdict::thread_denial;
+use verdict::move_denial;
 ghost use mathlib.Core.Path.{_≡_};
 ghost use Rattle.laws.specs.Refusals.{first};
 ghost use Rattle.tables.specs.Tables.{before, after};
@@ -88,13 +88,13 @@ fn exchange_denial(
 ) -> Denial
     ensures { λ r. ⌜ r ≡ threadDenial (now (entries .entry)) (now (layers .entry)) (now (pool .entry)) (now (threads .entry)) t (Question.Move (exchangeMove (now (entries .entry)) s d x)) ⌝ }
 {
-    thread_denial(
+    move_denial(
         entries,
         layers,
         pool,
         threads,
         t,
-        Question::Move(exchange_move(entries, s, d, x)),
+        exchange_move(entries, s, d, x),
     )
 }
 

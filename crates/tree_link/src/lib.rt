@@ -12,7 +12,7 @@ use tree::entries::put_entry;
 use tree_moves::link_move;
 use verdict::Denial;
 use verdict::Question;
-use verdict::thread_denial;
+use verdict::move_denial;
 ghost use mathlib.Core.Path.{_≡_};
 ghost use Rattle.laws.specs.Refusals.{first};
 ghost use Rattle.tables.specs.Tables.{before, after};
@@ -69,14 +69,7 @@ fn link_denial(
 ) -> Denial
     ensures { λ r. ⌜ r ≡ threadDenial (now (entries .entry)) (now (layers .entry)) (now (pool .entry)) (now (threads .entry)) t (Question.Move (linkMove (now (entries .entry)) s d)) ⌝ }
 {
-    thread_denial(
-        entries,
-        layers,
-        pool,
-        threads,
-        t,
-        Question::Move(link_move(entries, s, d)),
-    )
+    move_denial(entries, layers, pool, threads, t, link_move(entries, s, d))
 }
 
 // `e` is the lowest free entry.

@@ -18,7 +18,7 @@ use tree_replaced::is_root;
 use tree_replaced::is_same;
 use verdict::Denial;
 use verdict::Question;
-use verdict::thread_denial;
+use verdict::move_denial;
 ghost use mathlib.Core.Path.{_≡_};
 ghost use Rattle.laws.specs.Refusals.{first};
 ghost use Rattle.tables.specs.Tables.{before, after};
@@ -92,13 +92,13 @@ fn rename_denial(
 ) -> Denial
     ensures { λ r. ⌜ r ≡ threadDenial (now (entries .entry)) (now (layers .entry)) (now (pool .entry)) (now (threads .entry)) t (Question.Move (renameMove (now (entries .entry)) s d x)) ⌝ }
 {
-    thread_denial(
+    move_denial(
         entries,
         layers,
         pool,
         threads,
         t,
-        Question::Move(rename_move(entries, s, d, x)),
+        rename_move(entries, s, d, x),
     )
 }
 

@@ -153,17 +153,18 @@ fn domain_judged(entries: &[u64], layers: &[u64], pool: &[u64], y: u64, q: Quest
     }
 }
 
-// What the domain of a thread answers. Without a layer nothing is asked.
+// What the domain of a thread answers to rights at an entry. Without a layer nothing is asked.
 pub fn thread_judged(
     entries: &[u64],
     layers: &[u64],
     pool: &[u64],
     threads: &[u64],
     t: u64,
-    q: Question,
+    e: u64,
+    asked: Rights,
 ) -> Judged
-    ensures denial { λ r. ⌜ r .denial ≡ threadDenial (now (entries .entry)) (now (layers .entry)) (now (pool .entry)) (now (threads .entry)) t q ⌝ }
-    ensures read { λ r. ⌜ r .read ≡ threadReads (now (entries .entry)) (now (layers .entry)) (now (pool .entry)) (now (threads .entry)) t q ⌝ }
+    ensures denial { λ r. ⌜ r .denial ≡ threadDenial (now (entries .entry)) (now (layers .entry)) (now (pool .entry)) (now (threads .entry)) t (Question.Entry e asked) ⌝ }
+    ensures read { λ r. ⌜ r .read ≡ threadReads (now (entries .entry)) (now (layers .entry)) (now (pool .entry)) (now (threads .entry)) t (Question.Entry e asked) ⌝ }
 {
     let y = youngest_of(threads, t);
     if y == 0 {
@@ -172,10 +173,10 @@ pub fn thread_judged(
             read: 0,
         };
     }
-    domain_judged(entries, layers, pool, y, q)
+    domain_judged(entries, layers, pool, y, Question::Entry(e, asked))
 }
 
-// The denial alone.
+// The denial alone, of any question. Without a layer nothing is asked.
 pub fn thread_denial(
     entries: &[u64],
     layers: &[u64],
@@ -186,7 +187,29 @@ pub fn thread_denial(
 ) -> Denial
     ensures { λ r. ⌜ r ≡ threadDenial (now (entries .entry)) (now (layers .entry)) (now (pool .entry)) (now (threads .entry)) t q ⌝ }
 {
-    thread_judged(entries, layers, pool, threads, t, q).denial
+    let y = youngest_of(threads, t);
+    if y == 0 {
+        return Denial::None;
+    }
+    domain_judged(entries, layers, pool, y, q).denial
+}
+
+// The same of a move. A question is made of it only where there is a layer to ask.
+pub fn move_denial(
+    entries: &[u64],
+    layers: &[u64],
+    pool: &[u64],
+    threads: &[u64],
+    t: u64,
+    m: Move,
+) -> Denial
+    ensures { λ r. ⌜ r ≡ threadDenial (now (entries .entry)) (now (layers .entry)) (now (pool .entry)) (now (threads .entry)) t (Question.Move m) ⌝ }
+{
+    let y = youngest_of(threads, t);
+    if y == 0 {
+        return Denial::None;
+    }
+    domain_judged(entries, layers, pool, y, Question::Move(m)).denial
 }
 
 impl Denial {

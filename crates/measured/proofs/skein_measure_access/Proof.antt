@@ -9,4 +9,4 @@ skein-measure-access-spec =
     (tie.spec
     (λ c κs. tt)
     (λ c κs. tt)
-    (λ c. entry-is _ _ _ _ _ _ _ (c .before .thread-denial .ensures) (c .refusal .ensures)))
+    (λ c. entry-is _ _ _ _ _ _ _ (c .before .thread-judged .ensures .0) (c .refusal .ensures)))

@@ -10,4 +10,4 @@ skein-measure-rename-spec =
     (λ c κs. tt)
     (λ c κs. tt)
     (λ c κs. tt)
-    (λ c. let d = c .before in rw (← d .before .rename-move .ensures) (move-is _ _ _ _ _ _ (d .thread-denial .ensures) (c .refusal .ensures))))
+    (λ c. let d = c .before in rw (← d .before .rename-move .ensures) (move-is _ _ _ _ _ _ (d .move-denial .ensures) (c .refusal .ensures))))

@@ -8,4 +8,4 @@ rename-denial-spec =
     (tie.spec
     (λ c κs. tt)
     (λ c κs. tt)
-    (λ c. rw (← c .before .rename-move .ensures) (c .thread-denial .ensures)))
+    (λ c. rw (← c .before .rename-move .ensures) (c .move-denial .ensures)))

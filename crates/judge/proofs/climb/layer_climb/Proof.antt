@@ -16,12 +16,12 @@ layer-climb-spec =
     (λ c κs. tt)
     (λ c κs. omega arith)
     (λ c.
-    let m = c .before in
+    let m = c .before .before in
     let h = m .before in
     let f = h .before in
-    let r = f .before in
+    let r = f .before .before .before in
     let a = r .before .before .before .before .args in
     let L = layerAt (a .layers .now) (a .pool .now) (a .l) in (
-      missing-is L (a .asked .0) (r .layer-rules .ensures) (a .entries .now) (a .e) (f .layer-fs .ensures) (h .handled-by .ensures) (m .meet .ensures) (c .climb .ensures .0),
-      reads-is L (a .asked .0) (r .layer-rules .ensures) (a .entries .now) (a .e) (f .layer-fs .ensures) (h .handled-by .ensures) (m .meet .ensures) (c .climb .ensures .1),
+      missing-is L (a .asked .0) (r .layer-rules .ensures) _ (a .e) (f .layer-fs .ensures) (h .handled-by .ensures) (m .meet .ensures) (c .climb .ensures .0),
+      reads-is L (a .asked .0) (r .layer-rules .ensures) _ (a .e) (f .layer-fs .ensures) (h .handled-by .ensures) (m .meet .ensures) (c .climb .ensures .1),
     )))

@@ -9,10 +9,14 @@ use Rattle.judge.specs.Rules.{isRule, rulePlace, rightsOn}
 use Rattle.judge.proofs.rules.rights_on.Statement.{statement}
 use Rattle.judge.proofs.rules.rights_on.Tie as tie
 
--- the place is at most the number of rules
-small : (c : tie.After-rule-place) → c .rule-place .result ≤ length (c .before .before .args .rules .now) / ruleWidth
+-- the rules end where the slice does, or before
+small : (c : tie.After-rule-start) → c .rule-start .result ≤ length (c .before .before .args .rules .now)
 unfolding rulePlace
-small c = let a = c .before .before .args in rw (c .rule-place .ensures) (first-bound (isRule (a .rules .now) (a .ty) (a .key)) (length (a .rules .now) / ruleWidth))
+small c =
+    let a = c .before .before .args in
+    let h = first-bound (isRule (a .rules .now) (a .ty) (a .key)) (length (a .rules .now) / ruleWidth) in
+    let e = c .rule-start .ensures in
+    omega arith
 
 pub rights-on-spec : {M : Type 1} → statement M
 unfolding rightsOn
@@ -21,8 +25,7 @@ rights-on-spec =
     (tie.spec
     (λ c κs. tt)
     (λ c. let h = small c in omega arith)
-    (λ c. let h = small c in omega arith)
     (λ c κs. tt)
     (λ c.
     let a = c .before .before .before .args in
-    c .read .ensures ∙ ap (λ (i : ℕ). getD (a .rules .now) (ruleWidth * i + 2) 0) (c .before .rule-place .ensures)))
+    c .read .ensures ∙ ap (λ (i : ℕ). getD (a .rules .now) (i + 2) 0) (c .before .rule-start .ensures)))
