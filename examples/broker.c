@@ -25,10 +25,9 @@
 #include "broker_plugins.h"
 #include "skeinrabbit.h"
 
-enum { NAME_SIZE = 64, PLUGINS = 2, GRANTS = 2 };
+enum { PLUGINS = 2, GRANTS = 2 };
 static const char *const operation_names[] = { "read", "write", "create", "mkdir", "remove", "rename", "?" };
 
-#define NONE UINT64_MAX /* no entry */
 #define ALL_FILE_RIGHTS ((SKEIN_FS_IOCTL_DEV << 1) - 1)
 #define MAY_READ (SKEIN_FS_READ_FILE | SKEIN_FS_READ_DIR)
 #define MAY_MOVE (MAY_READ | SKEIN_FS_MAKE_REG | SKEIN_FS_REMOVE_FILE | SKEIN_FS_REFER)
@@ -52,10 +51,10 @@ struct plugin {
 	pid_t process;
 };
 
-/* Where a path leads: a directory, a name in it, and the entry of that name or NONE. */
+/* An entry with its directory and its name there; of one that is to be made, directory and name alone. */
 struct place {
 	uint64_t directory, entry;
-	char name[NAME_SIZE];
+	char name[PATH_SIZE];
 };
 
 static struct plugin plugins[PLUGINS] = {
@@ -64,7 +63,6 @@ static struct plugin plugins[PLUGINS] = {
 };
 
 static struct skein_tables tables, before;
-static char names[SKEIN_MAX_ENTRIES][NAME_SIZE]; /* of live entries; the tables keep none */
 static const char *root_path;
 static int root = -1;
 
@@ -112,65 +110,61 @@ static uint64_t parent_of(uint64_t entry)
 
 /* Names and paths. */
 
-static uint64_t child_of(uint64_t directory, const char *name)
+static void copy_name(char *to, uint64_t entry)
 {
-	for (uint64_t entry = 1; entry < SKEIN_MAX_ENTRIES; entry++)
-		if (kind_of(&tables, entry) != 0 && parent_of(entry) == directory && strcmp(names[entry], name) == 0)
-			return entry;
-	return NONE;
+	const uint8_t *const row = tables.names + entry * SKEIN_NAME_BYTES;
+
+	memcpy(to, row + 1, row[0]);
+	to[row[0]] = '\0';
 }
 
-static void go_to_entry(struct place *place, uint64_t entry)
+/* Finds the entry of a path in the tables, never in the file system; 0 or an error number. */
+static int find(struct place *place, const char *path)
 {
-	place->entry = entry;
-	place->directory = parent_of(entry);
-	memcpy(place->name, names[entry], NAME_SIZE);
-}
+	const int64_t found = skeinrabbit_lookup(&tables, path, strlen(path));
 
-static int go_to_name(struct place *place, const char *name, size_t length)
-{
-	if (place->entry == NONE)
-		return ENOENT;
-	if (kind_of(&tables, place->entry) != SKEIN_KIND_DIRECTORY)
-		return kind_of(&tables, place->entry) == SKEIN_KIND_SYMLINK ? ELOOP : ENOTDIR;
-	if (length >= NAME_SIZE)
-		return ENAMETOOLONG;
-	place->directory = place->entry;
-	memcpy(place->name, name, length);
-	place->name[length] = '\0';
-	if (strcmp(place->name, ".") == 0)
-		go_to_entry(place, place->directory);
-	else if (strcmp(place->name, "..") == 0)
-		go_to_entry(place, parent_of(place->directory));
-	else
-		place->entry = child_of(place->directory, place->name);
+	if (found < 0)
+		return (int)-found;
+	place->entry = (uint64_t)found;
+	place->directory = parent_of(place->entry);
+	copy_name(place->name, place->entry);
 	return 0;
 }
 
-/* Follows an absolute path in the tables, never in the file system; 0 or an error number. */
-static int walk(struct place *place, const char *path)
+/* Finds where an entry of a path is to be made: its last component is the name, what stands before it the directory. */
+static int find_room(struct place *place, const char *path)
 {
-	int error = path[0] == '/' ? 0 : EINVAL;
+	const size_t size = strlen(path);
+	const char *component, *last = path + size;
+	size_t length, last_length = 0;
+	int64_t found;
 
-	go_to_entry(place, SKEIN_ROOT);
-	for (path += strspn(path, "/"); error == 0 && *path != '\0'; path += strspn(path, "/")) {
-		const size_t length = strcspn(path, "/");
-
-		error = go_to_name(place, path, length);
-		path += length;
+	skeinrabbit_component(path, size, 0, &component, &length);
+	while (length != 0) {
+		last = component;
+		last_length = length;
+		skeinrabbit_component(path, size, (uint64_t)(last - path) + length, &component, &length);
 	}
-	return error;
+	found = skeinrabbit_lookup(&tables, path, (size_t)(last - path));
+	if (found < 0)
+		return (int)-found;
+	place->directory = (uint64_t)found;
+	memcpy(place->name, last, last_length);
+	place->name[last_length] = '\0';
+	return 0;
 }
 
 /* Opens a directory name by name from the root, so that the system follows no symlink. */
 static int open_directory(uint64_t directory)
 {
+	char name[SKEIN_MAX_NAME + 1];
 	int above, opened;
 
 	if (directory == SKEIN_ROOT)
 		return openat(root, ".", DIRECTORY_FLAGS);
 	above = open_directory(parent_of(directory));
-	opened = openat(above, names[directory], DIRECTORY_FLAGS);
+	copy_name(name, directory);
+	opened = openat(above, name, DIRECTORY_FLAGS);
 	close(above);
 	return opened;
 }
@@ -185,7 +179,7 @@ static void scan(uint64_t directory)
 	struct dirent *item;
 
 	if (list == NULL)
-		die(names[directory], errno);
+		die("directory", errno);
 	while ((item = readdir(list)) != NULL)
 		if (strcmp(item->d_name, ".") != 0 && strcmp(item->d_name, "..") != 0)
 			take_file(dirfd(list), directory, item->d_name);
@@ -206,10 +200,9 @@ static void take_file(int from, uint64_t directory, const char *name)
 		kind = SKEIN_KIND_DIRECTORY;
 	else if (S_ISLNK(found.st_mode))
 		kind = SKEIN_KIND_SYMLINK;
-	if (kind == 0 || strlen(name) >= NAME_SIZE)
+	if (kind == 0)
 		die(name, EINVAL);
-	entry = must(name, skeinrabbit_create(&tables, SKEIN_FIRST_THREAD, directory, kind, NULL));
-	snprintf(names[entry], NAME_SIZE, "%s", name);
+	entry = must(name, skeinrabbit_create(&tables, SKEIN_FIRST_THREAD, directory, kind, name, strlen(name), NULL));
 	if (kind == SKEIN_KIND_DIRECTORY)
 		scan(entry);
 }
@@ -220,12 +213,12 @@ static void confine(struct plugin *plugin)
 	const struct skein_ruleset_attr attr = { ALL_FILE_RIGHTS, SKEIN_NET_BIND_TCP | SKEIN_NET_CONNECT_TCP,
 						 SKEIN_SCOPE_ABSTRACT_UNIX_SOCKET | SKEIN_SCOPE_SIGNAL };
 	const uint64_t ruleset = must("ruleset", skeinrabbit_create_ruleset(&tables, &attr, sizeof(attr), 0));
-	struct place place;
 
 	for (size_t i = 0; i < GRANTS; i++) {
-		if (walk(&place, plugin->paths[i]) != 0)
-			die(plugin->paths[i], ENOENT);
-		must(plugin->paths[i], skeinrabbit_add_path_rule(&tables, ruleset, place.entry, plugin->rights[i], 0));
+		const char *const path = plugin->paths[i];
+		const uint64_t entry = must(path, skeinrabbit_lookup(&tables, path, strlen(path)));
+
+		must(path, skeinrabbit_add_path_rule(&tables, ruleset, entry, plugin->rights[i], 0));
 	}
 	plugin->thread = must("clone", skeinrabbit_clone(&tables, SKEIN_FIRST_THREAD));
 	must("no_new_privs", skeinrabbit_set_no_new_privs(&tables, plugin->thread));
@@ -264,15 +257,17 @@ static struct answer use_file(uint64_t thread, const struct request *request, co
 static int64_t change_tables(uint64_t thread, uint32_t operation, const struct place *from, const struct place *to,
 			     struct skein_report *report)
 {
+	const size_t length = strlen(to->name);
+
 	switch (operation) {
 	case CREATE:
-		return skeinrabbit_create(&tables, thread, to->directory, SKEIN_KIND_REGULAR, report);
+		return skeinrabbit_create(&tables, thread, to->directory, SKEIN_KIND_REGULAR, to->name, length, report);
 	case MKDIR:
-		return skeinrabbit_create(&tables, thread, to->directory, SKEIN_KIND_DIRECTORY, report);
+		return skeinrabbit_create(&tables, thread, to->directory, SKEIN_KIND_DIRECTORY, to->name, length, report);
 	case REMOVE:
 		return skeinrabbit_remove(&tables, thread, from->entry, report);
 	default:
-		return skeinrabbit_rename(&tables, thread, from->entry, to->directory, to->entry != NONE, to->entry, report);
+		return skeinrabbit_rename(&tables, thread, from->entry, to->directory, to->name, length, report);
 	}
 }
 
@@ -319,8 +314,6 @@ static struct answer change_tree(uint64_t thread, uint32_t operation, const stru
 		tables = before;
 		return answered(error, "system, tables restored");
 	}
-	if (operation != REMOVE)
-		memcpy(names[operation == RENAME ? from->entry : (uint64_t)verdict], to->name, NAME_SIZE);
 	return answered(0, "");
 }
 
@@ -334,19 +327,17 @@ static struct answer judge(uint64_t thread, const struct request *request)
 {
 	const uint32_t operation = request->operation;
 	const int makes = operation == CREATE || operation == MKDIR;
-	struct place from, to;
-	int error = is_well_formed(request) ? 0 : EINVAL;
+	struct place from = { SKEIN_ROOT, SKEIN_ROOT, "" }, to = from;
+	int error = 0;
 
-	if (error == 0)
-		error = walk(&from, makes ? "/" : request->path);
-	if (error == 0)
-		error = walk(&to, makes ? request->path : operation == RENAME ? request->target : "/");
-	if (error == 0 && from.entry == NONE)
-		error = ENOENT;
-	if (error == 0 && makes && to.entry != NONE)
-		error = EEXIST;
+	if (!is_well_formed(request))
+		return answered(EINVAL, "broker");
+	if (!makes)
+		error = find(&from, request->path);
+	if (error == 0 && (makes || operation == RENAME))
+		error = find_room(&to, makes ? request->path : request->target);
 	if (error != 0)
-		return answered(error, "broker");
+		return answered(error, "core");
 	if (operation == READ || operation == WRITE)
 		return use_file(thread, request, &from);
 	return change_tree(thread, operation, &from, &to);

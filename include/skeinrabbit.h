@@ -12,10 +12,14 @@
  * every answer: where a layer refuses (EACCES, EXDEV) it says which layer and which rights, and none with every other answer.
  * skeinrabbit_access also says how many entries' rules it read.
  *
+ * Every entry but the root has a name of 1 to 48 bytes without slash or zero byte, not "." or "..", that no other entry of its
+ * directory has. Names and paths are bytes with a length and need no closing zero.
+ *
  * Any cells and any numbers are answered. A call is defined if
  * - every pointer is valid for what it points to (a whole struct skein_tables, `size` bytes), aligned for its type and not NULL.
- *   Only an attribute may be NULL, and counts as no bytes then, whatever its size, and a report;
- * - none of these overlap: the tables, the attribute, a report, and the two places where skeinrabbit_layer_rules reports;
+ *   Only an attribute, a name or a path may be NULL, and counts as no bytes then, whatever its size, and a report;
+ * - none of these overlap: the tables, the bytes of an attribute, a name or a path, a report, and the two places where
+ *   skeinrabbit_layer_rules and skeinrabbit_component report;
  * - 96 KiB of stack are left (docs/PERFORMANCE.md), which a thread or coroutine with a small stack may not have;
  * - no other call on the same tables runs meanwhile, from a thread or from a signal handler. Calls on other tables may;
  * - the program is for x86-64 Linux, as the archive is.
@@ -51,6 +55,8 @@ extern "C" {
 #define SKEIN_MAX_THREADS 8
 #define SKEIN_MAX_ATTR_SIZE 4096
 #define SKEIN_MAX_PORT 65535
+#define SKEIN_MAX_NAME 48   /* bytes of an entry's name */
+#define SKEIN_MAX_PATH 4095 /* bytes of a path that is looked up */
 
 /* Cells of a rule and of a row of each table. */
 #define SKEIN_RULE_CELLS 3
@@ -59,8 +65,9 @@ extern "C" {
 #define SKEIN_RULESET_CELLS (4 + SKEIN_MAX_RULES * SKEIN_RULE_CELLS)
 #define SKEIN_LAYER_CELLS 7
 #define SKEIN_THREAD_CELLS 4
+#define SKEIN_NAME_BYTES (1 + SKEIN_MAX_NAME)
 
-/* The six tables. A free row is zero in every cell. */
+/* The seven tables. A free row is zero in every cell. */
 struct skein_tables {
 	/* level, next object number, layers used, pool rules used */
 	uint64_t system[SKEIN_SYSTEM_CELLS];
@@ -74,6 +81,8 @@ struct skein_tables {
 	uint64_t pool[SKEIN_MAX_POOL_RULES * SKEIN_RULE_CELLS];
 	/* live, youngest layer + 1 (0: none), no_new_privs, admin */
 	uint64_t threads[SKEIN_MAX_THREADS * SKEIN_THREAD_CELLS];
+	/* a row for each entry: length of its name, the name, zeros; the root's row is zero */
+	uint8_t names[SKEIN_MAX_ENTRIES * SKEIN_NAME_BYTES];
 };
 
 /* File system rights, with Landlock's names and bits. */
@@ -140,12 +149,14 @@ struct skein_tables {
 #define SKEIN_ENOMEM 12
 #define SKEIN_EACCES 13
 #define SKEIN_EBUSY 16
+#define SKEIN_EEXIST 17
 #define SKEIN_EXDEV 18
 #define SKEIN_ENOTDIR 20
 #define SKEIN_EISDIR 21
 #define SKEIN_EINVAL 22
 #define SKEIN_EMFILE 24
 #define SKEIN_ENOSPC 28
+#define SKEIN_ENAMETOOLONG 36
 #define SKEIN_ENOTEMPTY 39
 #define SKEIN_ENOMSG 42
 #define SKEIN_EOPNOTSUPP 95
@@ -184,49 +195,53 @@ struct skein_report {
  * The functions of the archive: each table as pointer and number of cells, then the arguments. The result is the success number,
  * or 2^64 minus the error number. Prefer the inline functions further down.
  *
- * The calls that only ask take tables that are const. A `report` may have any number of cells: those that fit are written, and
- * cells past them stay as they were.
+ * The calls that only ask take tables that are const; skein_component takes none. A `report` may have any number of cells: those
+ * that fit are written, and cells past them stay as they were.
  * Each pointer must be aligned (cells to 8 bytes) and valid for its length, and not NULL even if the length is 0. The tables, the
- * attribute, a report and the report `part` of skein_layer_rules must not overlap.
+ * bytes of an attribute, a name or a path, a report and the report `part` must not overlap.
  */
-#define SKEIN_TABLE_PARAMETERS(cell) \
+#define SKEIN_TABLE_PARAMETERS(cell, byte) \
 	cell *system_cells, size_t system_length, cell *entries, size_t entries_length, cell *rulesets, \
 		size_t rulesets_length, cell *layers, size_t layers_length, cell *pool, size_t pool_length, cell *threads, \
-		size_t threads_length
+		size_t threads_length, byte *names, size_t names_length
+#define SKEIN_TABLES SKEIN_TABLE_PARAMETERS(uint64_t, uint8_t)
+#define SKEIN_CONST_TABLES SKEIN_TABLE_PARAMETERS(const uint64_t, const uint8_t)
 
-extern uint64_t skein_fresh(SKEIN_TABLE_PARAMETERS(uint64_t), uint64_t level);
-extern uint64_t skein_create_ruleset(SKEIN_TABLE_PARAMETERS(uint64_t), const uint8_t *attr, size_t size, uint64_t flags);
-extern uint64_t skein_close_ruleset(SKEIN_TABLE_PARAMETERS(uint64_t), uint64_t ruleset);
-extern uint64_t skein_add_path_rule(SKEIN_TABLE_PARAMETERS(uint64_t), uint64_t ruleset, uint64_t entry, uint64_t rights, uint64_t flags);
-extern uint64_t skein_add_port_rule(SKEIN_TABLE_PARAMETERS(uint64_t), uint64_t ruleset, uint64_t port, uint64_t rights, uint64_t flags);
-extern uint64_t skein_restrict(SKEIN_TABLE_PARAMETERS(uint64_t), uint64_t thread, uint64_t ruleset, uint64_t flags);
-extern uint64_t skein_layer_rules(SKEIN_TABLE_PARAMETERS(const uint64_t), uint64_t layer, uint64_t *part, size_t part_length);
-extern uint64_t skein_clone(SKEIN_TABLE_PARAMETERS(uint64_t), uint64_t thread);
-extern uint64_t skein_end(SKEIN_TABLE_PARAMETERS(uint64_t), uint64_t thread);
-extern uint64_t skein_set_no_new_privs(SKEIN_TABLE_PARAMETERS(uint64_t), uint64_t thread);
-extern uint64_t skein_set_admin(SKEIN_TABLE_PARAMETERS(uint64_t), uint64_t thread, uint64_t on);
-extern uint64_t skein_access(SKEIN_TABLE_PARAMETERS(const uint64_t), uint64_t thread, uint64_t entry, uint64_t rights, uint64_t *report,
+extern uint64_t skein_fresh(SKEIN_TABLES, uint64_t level);
+extern uint64_t skein_create_ruleset(SKEIN_TABLES, const uint8_t *attr, size_t size, uint64_t flags);
+extern uint64_t skein_close_ruleset(SKEIN_TABLES, uint64_t ruleset);
+extern uint64_t skein_add_path_rule(SKEIN_TABLES, uint64_t ruleset, uint64_t entry, uint64_t rights, uint64_t flags);
+extern uint64_t skein_add_port_rule(SKEIN_TABLES, uint64_t ruleset, uint64_t port, uint64_t rights, uint64_t flags);
+extern uint64_t skein_restrict(SKEIN_TABLES, uint64_t thread, uint64_t ruleset, uint64_t flags);
+extern uint64_t skein_layer_rules(SKEIN_CONST_TABLES, uint64_t layer, uint64_t *part, size_t part_length);
+extern uint64_t skein_clone(SKEIN_TABLES, uint64_t thread);
+extern uint64_t skein_end(SKEIN_TABLES, uint64_t thread);
+extern uint64_t skein_set_no_new_privs(SKEIN_TABLES, uint64_t thread);
+extern uint64_t skein_set_admin(SKEIN_TABLES, uint64_t thread, uint64_t on);
+extern uint64_t skein_access(SKEIN_CONST_TABLES, uint64_t thread, uint64_t entry, uint64_t rights, uint64_t *report,
 			     size_t report_length);
-extern uint64_t skein_port(SKEIN_TABLE_PARAMETERS(const uint64_t), uint64_t thread, uint64_t port, uint64_t rights, uint64_t *report,
+extern uint64_t skein_port(SKEIN_CONST_TABLES, uint64_t thread, uint64_t port, uint64_t rights, uint64_t *report,
 			   size_t report_length);
-extern uint64_t skein_signal(SKEIN_TABLE_PARAMETERS(const uint64_t), uint64_t thread, uint64_t target);
-extern uint64_t skein_abstract_socket(SKEIN_TABLE_PARAMETERS(const uint64_t), uint64_t thread, uint64_t target);
-extern uint64_t skein_create(SKEIN_TABLE_PARAMETERS(uint64_t), uint64_t thread, uint64_t directory, uint64_t kind, uint64_t *report,
-			     size_t report_length);
-extern uint64_t skein_remove(SKEIN_TABLE_PARAMETERS(uint64_t), uint64_t thread, uint64_t entry, uint64_t *report, size_t report_length);
-extern uint64_t skein_link(SKEIN_TABLE_PARAMETERS(uint64_t), uint64_t thread, uint64_t source, uint64_t directory, uint64_t *report,
-			   size_t report_length);
-extern uint64_t skein_rename(SKEIN_TABLE_PARAMETERS(uint64_t), uint64_t thread, uint64_t source, uint64_t directory, uint64_t replaces,
-			     uint64_t entry, uint64_t *report, size_t report_length);
-extern uint64_t skein_exchange(SKEIN_TABLE_PARAMETERS(uint64_t), uint64_t thread, uint64_t source, uint64_t directory, uint64_t entry,
-			       uint64_t *report, size_t report_length);
+extern uint64_t skein_signal(SKEIN_CONST_TABLES, uint64_t thread, uint64_t target);
+extern uint64_t skein_abstract_socket(SKEIN_CONST_TABLES, uint64_t thread, uint64_t target);
+extern uint64_t skein_create(SKEIN_TABLES, uint64_t thread, uint64_t directory, uint64_t kind, const uint8_t *name, size_t name_length,
+			     uint64_t *report, size_t report_length);
+extern uint64_t skein_remove(SKEIN_TABLES, uint64_t thread, uint64_t entry, uint64_t *report, size_t report_length);
+extern uint64_t skein_link(SKEIN_TABLES, uint64_t thread, uint64_t source, uint64_t directory, const uint8_t *name, size_t name_length,
+			   uint64_t *report, size_t report_length);
+extern uint64_t skein_rename(SKEIN_TABLES, uint64_t thread, uint64_t source, uint64_t directory, const uint8_t *name, size_t name_length,
+			     uint64_t *report, size_t report_length);
+extern uint64_t skein_exchange(SKEIN_TABLES, uint64_t thread, uint64_t source, uint64_t directory, uint64_t entry, uint64_t *report,
+			       size_t report_length);
+extern uint64_t skein_lookup(SKEIN_CONST_TABLES, const uint8_t *path, size_t path_length);
+extern uint64_t skein_component(const uint8_t *path, size_t path_length, uint64_t place, uint64_t *part, size_t part_length);
 
 /* The tables of a struct as the arguments of an archive's function. */
 #define SKEIN_TABLE_ARGUMENTS(t) \
 	(t)->system, sizeof((t)->system) / sizeof(uint64_t), (t)->entries, sizeof((t)->entries) / sizeof(uint64_t), \
 		(t)->rulesets, sizeof((t)->rulesets) / sizeof(uint64_t), (t)->layers, \
 		sizeof((t)->layers) / sizeof(uint64_t), (t)->pool, sizeof((t)->pool) / sizeof(uint64_t), (t)->threads, \
-		sizeof((t)->threads) / sizeof(uint64_t)
+		sizeof((t)->threads) / sizeof(uint64_t), (t)->names, sizeof((t)->names)
 
 /* 2^64 minus an error number, read as the negative error number. */
 static inline int64_t skeinrabbit_answer(uint64_t result)
@@ -247,6 +262,19 @@ static inline int64_t skeinrabbit_reported(uint64_t result, const uint64_t *cell
 	return skeinrabbit_answer(result);
 }
 
+/* Bytes as the archive's functions take them, of which NULL is none. */
+static inline const uint8_t *skeinrabbit_bytes(const void *bytes, size_t size)
+{
+	static const uint8_t no_bytes = 0;
+
+	return bytes == NULL || size == 0 ? &no_bytes : (const uint8_t *)bytes;
+}
+
+static inline size_t skeinrabbit_length(const void *bytes, size_t size)
+{
+	return bytes == NULL ? 0 : size;
+}
+
 /*
  * Makes fresh tables: entry 0 (the root directory) and thread 0 with no layer and both marks off.
  * EINVAL level above 6. Level 0 is Landlock disabled.
@@ -263,11 +291,8 @@ static inline int64_t skeinrabbit_fresh(struct skein_tables *t, uint64_t level)
  */
 static inline int64_t skeinrabbit_create_ruleset(struct skein_tables *t, const void *attr, size_t size, uint64_t flags)
 {
-	const uint8_t no_bytes = 0;
-	const uint8_t *const bytes = attr == NULL || size == 0 ? &no_bytes : (const uint8_t *)attr;
-	const size_t length = attr == NULL ? 0 : size;
-
-	return skeinrabbit_answer(skein_create_ruleset(SKEIN_TABLE_ARGUMENTS(t), bytes, length, flags));
+	return skeinrabbit_answer(skein_create_ruleset(SKEIN_TABLE_ARGUMENTS(t), skeinrabbit_bytes(attr, size),
+						       skeinrabbit_length(attr, size), flags));
 }
 
 /*
@@ -410,15 +435,44 @@ static inline int64_t skeinrabbit_abstract_socket(const struct skein_tables *t, 
 }
 
 /*
- * Creates an entry of a kind in a directory; answers its number.
- * ESRCH thread not live; ENOENT directory not live; ENOTDIR it is no directory; EINVAL unknown kind; EACCES MAKE of the kind
- * denied; ENOSPC no free entry or no object number left.
+ * Looks up an absolute path; answers its entry. Repeated slashes count as one, "." stays, ".." goes to the parent (of the root, to
+ * the root), a symlink is never followed.
+ * ENOENT an empty path; ENAMETOOLONG more than 4,095 bytes; EINVAL no leading slash; EINVAL a zero byte; then component by
+ * component: ENOTDIR after an entry that is no directory (a closing slash there too), ENAMETOOLONG more than 48 bytes, ENOENT no
+ * such name.
+ */
+static inline int64_t skeinrabbit_lookup(const struct skein_tables *t, const void *path, size_t size)
+{
+	return skeinrabbit_answer(skein_lookup(SKEIN_TABLE_ARGUMENTS(t), skeinrabbit_bytes(path, size), skeinrabbit_length(path, size)));
+}
+
+/*
+ * Shows the first component that starts at or after a place, as a part of the path: `*component` points to its first byte,
+ * `*length` is their number, 0 if there is none. A place within a component skips the rest of it. Any bytes are a path here; its
+ * components are what stands between slashes. Answers 0.
+ */
+static inline int64_t skeinrabbit_component(const char *path, size_t size, uint64_t place, const char **component, size_t *length)
+{
+	uint64_t part[2] = { 0, 0 };
+	const uint64_t result = skein_component(skeinrabbit_bytes(path, size), skeinrabbit_length(path, size), place, part, 2);
+
+	*component = path == NULL ? NULL : path + part[0];
+	*length = (size_t)part[1];
+	return skeinrabbit_answer(result);
+}
+
+/*
+ * Creates an entry of a kind in a directory, with a name; answers its number.
+ * ESRCH thread not live; ENOENT directory not live; ENOTDIR it is no directory; ENAMETOOLONG a name of more than 48 bytes; EINVAL
+ * a name that is empty, "." or "..", or has a slash or a zero byte; EEXIST the directory has the name; EINVAL unknown kind; EACCES
+ * MAKE of the kind denied; ENOSPC no free entry or no object number left.
  */
 static inline int64_t skeinrabbit_create(struct skein_tables *t, uint64_t thread, uint64_t directory, uint64_t kind,
-					 struct skein_report *report)
+					 const void *name, size_t size, struct skein_report *report)
 {
 	uint64_t cells[SKEIN_REPORT_CELLS] = { 0 };
-	const uint64_t result = skein_create(SKEIN_TABLE_ARGUMENTS(t), thread, directory, kind, cells, SKEIN_REPORT_CELLS);
+	const uint64_t result = skein_create(SKEIN_TABLE_ARGUMENTS(t), thread, directory, kind, skeinrabbit_bytes(name, size),
+					     skeinrabbit_length(name, size), cells, SKEIN_REPORT_CELLS);
 
 	return skeinrabbit_reported(result, cells, report);
 }
@@ -437,37 +491,41 @@ static inline int64_t skeinrabbit_remove(struct skein_tables *t, uint64_t thread
 }
 
 /*
- * Makes a hard link to the source's object in a directory; answers the new entry.
- * ESRCH thread not live; ENOENT source or directory not live; EBUSY source is the root; ENOTDIR target is no directory; EPERM
- * source is a directory; EACCES MAKE denied; EXDEV REFER denied, or the link would gain a right; ENOSPC no free entry.
+ * Makes a hard link to the source's object in a directory, with a name; answers the new entry.
+ * ESRCH thread not live; ENOENT source or directory not live; EBUSY source is the root; ENOTDIR target is no directory;
+ * ENAMETOOLONG and EINVAL a bad name as for skeinrabbit_create; EEXIST the directory has the name; EPERM source is a directory;
+ * EACCES MAKE denied; EXDEV REFER denied, or the link would gain a right; ENOSPC no free entry.
  */
 static inline int64_t skeinrabbit_link(struct skein_tables *t, uint64_t thread, uint64_t source, uint64_t directory,
-				       struct skein_report *report)
+				       const void *name, size_t size, struct skein_report *report)
 {
 	uint64_t cells[SKEIN_REPORT_CELLS] = { 0 };
-	const uint64_t result = skein_link(SKEIN_TABLE_ARGUMENTS(t), thread, source, directory, cells, SKEIN_REPORT_CELLS);
+	const uint64_t result = skein_link(SKEIN_TABLE_ARGUMENTS(t), thread, source, directory, skeinrabbit_bytes(name, size),
+					   skeinrabbit_length(name, size), cells, SKEIN_REPORT_CELLS);
 
 	return skeinrabbit_reported(result, cells, report);
 }
 
 /*
- * Moves an entry to a directory; if `replaces` is not 0, in place of `entry`, which is then freed. The source keeps its number.
- * ESRCH thread not live; ENOENT source, directory or replaced entry not live; EBUSY source or replaced entry is the root;
- * ENOTDIR target is no directory; EINVAL replaced entry not in the directory; EINVAL source is the directory or above it; EACCES
- * REMOVE or MAKE denied; EXDEV REFER denied, or the source would gain a right; both the same object: 0, nothing changes;
+ * Moves an entry to a directory and gives it a name. If an entry of the directory bears the name already, it is replaced: its
+ * number is free then. The source keeps its number.
+ * ESRCH thread not live; ENOENT source or directory not live; EBUSY source is the root; ENOTDIR target is no directory;
+ * ENAMETOOLONG and EINVAL a bad name as for skeinrabbit_create; EINVAL source is the directory or above it; EACCES REMOVE or MAKE
+ * denied; EXDEV REFER denied, or the source would gain a right; source and replaced entry the same object: 0, nothing changes;
  * ENOTDIR a directory over another kind; EISDIR the reverse; ENOTEMPTY replaced directory with entries.
  */
 static inline int64_t skeinrabbit_rename(struct skein_tables *t, uint64_t thread, uint64_t source, uint64_t directory,
-					 uint64_t replaces, uint64_t entry, struct skein_report *report)
+					 const void *name, size_t size, struct skein_report *report)
 {
 	uint64_t cells[SKEIN_REPORT_CELLS] = { 0 };
-	const uint64_t result = skein_rename(SKEIN_TABLE_ARGUMENTS(t), thread, source, directory, replaces, entry, cells, SKEIN_REPORT_CELLS);
+	const uint64_t result = skein_rename(SKEIN_TABLE_ARGUMENTS(t), thread, source, directory, skeinrabbit_bytes(name, size),
+					     skeinrabbit_length(name, size), cells, SKEIN_REPORT_CELLS);
 
 	return skeinrabbit_reported(result, cells, report);
 }
 
 /*
- * Exchanges an entry with an entry of a directory.
+ * Exchanges an entry with an entry of a directory, names with places.
  * ESRCH thread not live; ENOENT source, directory or other entry not live; EBUSY source or other entry is the root; ENOTDIR
  * target is no directory; EINVAL other entry not in the directory; EINVAL source is the directory or above it; EINVAL other
  * entry is the source's parent or above it; EACCES REMOVE or MAKE denied; EXDEV REFER denied, or either would gain a right.

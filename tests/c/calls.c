@@ -3,6 +3,7 @@
  * that is made from the other one must see the same tables.
  */
 #include <stdio.h>
+#include <string.h>
 
 #include "skeinrabbit.h"
 
@@ -73,16 +74,85 @@ static void requests(struct skein_tables *t)
 
 static void tree_calls(struct skein_tables *t)
 {
-	expect("create, denied", skeinrabbit_create(t, 1, 1, SKEIN_KIND_SOCKET, NULL), -SKEIN_EACCES);
-	expect("create, unknown kind", skeinrabbit_create(t, 1, 1, 8, NULL), -SKEIN_EINVAL);
-	expect("link", skeinrabbit_link(t, 0, 2, SKEIN_ROOT, NULL), 4);
-	expect("link, REFER denied", skeinrabbit_link(t, 1, 2, SKEIN_ROOT, NULL), -SKEIN_EXDEV);
-	expect("rename", skeinrabbit_rename(t, 0, 2, SKEIN_ROOT, 0, 0, NULL), 0);
-	expect("rename over its own link", skeinrabbit_rename(t, 0, 2, SKEIN_ROOT, 1, 4, NULL), 0);
-	expect("rename, file over directory", skeinrabbit_rename(t, 0, 2, SKEIN_ROOT, 1, 1, NULL), -SKEIN_EISDIR);
+	expect("create, denied", skeinrabbit_create(t, 1, 1, SKEIN_KIND_SOCKET, "new", 3, NULL), -SKEIN_EACCES);
+	expect("create, unknown kind", skeinrabbit_create(t, 1, 1, 8, "new", 3, NULL), -SKEIN_EINVAL);
+	expect("create, taken", skeinrabbit_create(t, 1, 1, 8, "table", 5, NULL), -SKEIN_EEXIST);
+	expect("link", skeinrabbit_link(t, 0, 2, SKEIN_ROOT, "twin", 4, NULL), 4);
+	expect("link, taken", skeinrabbit_link(t, 0, 2, SKEIN_ROOT, "twin", 4, NULL), -SKEIN_EEXIST);
+	expect("link, REFER denied", skeinrabbit_link(t, 1, 2, SKEIN_ROOT, "other", 5, NULL), -SKEIN_EXDEV);
+	expect("rename", skeinrabbit_rename(t, 0, 2, SKEIN_ROOT, "table", 5, NULL), 0);
+	expect("lookup of what was renamed", skeinrabbit_lookup(t, "/table", 6), 2);
+	expect("rename over its own link", skeinrabbit_rename(t, 0, 2, SKEIN_ROOT, "twin", 4, NULL), 0);
+	expect("lookup of the link", skeinrabbit_lookup(t, "/twin", 5), 4);
+	expect("rename, file over directory", skeinrabbit_rename(t, 0, 2, SKEIN_ROOT, "cal", 3, NULL), -SKEIN_EISDIR);
 	expect("exchange", skeinrabbit_exchange(t, 0, 3, SKEIN_ROOT, 2, NULL), 0);
+	expect("lookup of what was exchanged", skeinrabbit_lookup(t, "/table", 6), 3);
 	expect("remove, root", skeinrabbit_remove(t, 0, SKEIN_ROOT, NULL), -SKEIN_EBUSY);
 	expect("remove", skeinrabbit_remove(t, 0, 4, NULL), 0);
+}
+
+/* Names of all lengths, and bytes that are no name. The tree is that of main: 1 /cal, 2 /cal/table, 3 /feed. */
+static void names(struct skein_tables *t)
+{
+	char longest[SKEIN_MAX_NAME + 1];
+
+	memset(longest, 'n', sizeof(longest));
+	expect("create, no bytes", skeinrabbit_create(t, 0, 1, SKEIN_KIND_REGULAR, NULL, 9, NULL), -SKEIN_EINVAL);
+	expect("create, 0 bytes", skeinrabbit_create(t, 0, 1, SKEIN_KIND_REGULAR, "x", 0, NULL), -SKEIN_EINVAL);
+	expect("create, ..", skeinrabbit_create(t, 0, 1, SKEIN_KIND_REGULAR, "..", 2, NULL), -SKEIN_EINVAL);
+	expect("create, a slash", skeinrabbit_create(t, 0, 1, SKEIN_KIND_REGULAR, "a/b", 3, NULL), -SKEIN_EINVAL);
+	expect("create, a zero byte", skeinrabbit_create(t, 0, 1, SKEIN_KIND_REGULAR, "a", 2, NULL), -SKEIN_EINVAL);
+	expect("create, 49 bytes", skeinrabbit_create(t, 0, 1, SKEIN_KIND_REGULAR, longest, sizeof(longest), NULL),
+	       -SKEIN_ENAMETOOLONG);
+	expect("create, 48 bytes", skeinrabbit_create(t, 0, 1, SKEIN_KIND_REGULAR, longest, SKEIN_MAX_NAME, NULL), 4);
+	expect("its length", t->names[4 * SKEIN_NAME_BYTES], SKEIN_MAX_NAME);
+	expect("remove", skeinrabbit_remove(t, 0, 4, NULL), 0);
+	expect("its row", t->names[4 * SKEIN_NAME_BYTES], 0);
+	t->names[0] = 1;
+	expect("lookup, the root has a name", skeinrabbit_lookup(t, "/", 1), -SKEIN_EIO);
+	t->names[0] = 0;
+}
+
+static void paths(struct skein_tables *t)
+{
+	char slashes[SKEIN_MAX_PATH + 1];
+
+	memset(slashes, '/', sizeof(slashes));
+	expect("lookup", skeinrabbit_lookup(t, "/cal/table", 10), 2);
+	expect("lookup with dots", skeinrabbit_lookup(t, "//cal/./../cal/table", 20), 2);
+	expect("lookup of the root", skeinrabbit_lookup(t, "/..", 3), SKEIN_ROOT);
+	expect("lookup, no bytes", skeinrabbit_lookup(t, NULL, 4), -SKEIN_ENOENT);
+	expect("lookup, no leading slash", skeinrabbit_lookup(t, "cal", 3), -SKEIN_EINVAL);
+	expect("lookup, a zero byte", skeinrabbit_lookup(t, "/cal", 5), -SKEIN_EINVAL);
+	expect("lookup, 4,095 bytes", skeinrabbit_lookup(t, slashes, SKEIN_MAX_PATH), SKEIN_ROOT);
+	expect("lookup, 4,096 bytes", skeinrabbit_lookup(t, slashes, sizeof(slashes)), -SKEIN_ENAMETOOLONG);
+	expect("lookup, a file and a slash", skeinrabbit_lookup(t, "/feed/", 6), -SKEIN_ENOTDIR);
+	expect("lookup, no such name", skeinrabbit_lookup(t, "/cal/feed", 9), -SKEIN_ENOENT);
+}
+
+static void expect_component(const char *path, uint64_t place, const char *expected)
+{
+	const char *component = NULL;
+	size_t length = 99;
+
+	expect("component", skeinrabbit_component(path, strlen(path), place, &component, &length), 0);
+	expect("component: length", (int64_t)length, (int64_t)strlen(expected));
+	expect("component: bytes", memcmp(component, expected, length), 0);
+	expect("component: a part of the path", component >= path && component <= path + strlen(path), 1);
+}
+
+static void components(void)
+{
+	const char *component = "x";
+	size_t length = 99;
+
+	expect_component("/cal//table", 0, "cal");
+	expect_component("/cal//table", 1, "cal");
+	expect_component("/cal//table", 2, "table");
+	expect_component("/cal//table", 7, "");
+	expect_component("/cal//table", UINT64_MAX, "");
+	expect("component, no path", skeinrabbit_component(NULL, 9, 0, &component, &length), 0);
+	expect("component, no path: length", (int64_t)length, 0);
 }
 
 /* Thread 1 has a layer that handles SKEIN_SCOPE_SIGNAL alone, thread 0 has none. */
@@ -148,10 +218,10 @@ static void worked_tree(struct skein_tables *t, uint64_t cal_rights)
 	const struct skein_ruleset_attr attr = { WORKED, 0, 0 };
 
 	expect("fresh", skeinrabbit_fresh(t, SKEIN_MAX_LEVEL), 0);
-	expect("create", skeinrabbit_create(t, 0, SKEIN_ROOT, SKEIN_KIND_DIRECTORY, NULL), 1);
-	expect("create", skeinrabbit_create(t, 0, SKEIN_ROOT, SKEIN_KIND_DIRECTORY, NULL), 2);
-	expect("create", skeinrabbit_create(t, 0, 1, SKEIN_KIND_REGULAR, NULL), 3);
-	expect("create", skeinrabbit_create(t, 0, 2, SKEIN_KIND_REGULAR, NULL), 4);
+	expect("create", skeinrabbit_create(t, 0, SKEIN_ROOT, SKEIN_KIND_DIRECTORY, "cal", 3, NULL), 1);
+	expect("create", skeinrabbit_create(t, 0, SKEIN_ROOT, SKEIN_KIND_DIRECTORY, "import", 6, NULL), 2);
+	expect("create", skeinrabbit_create(t, 0, 1, SKEIN_KIND_REGULAR, "table", 5, NULL), 3);
+	expect("create", skeinrabbit_create(t, 0, 2, SKEIN_KIND_REGULAR, "feed", 4, NULL), 4);
 	expect("create_ruleset", skeinrabbit_create_ruleset(t, &attr, sizeof(attr), 0), 0);
 	expect("add_path_rule", skeinrabbit_add_path_rule(t, 0, 1, cal_rights, 0), 0);
 	expect("add_path_rule", skeinrabbit_add_path_rule(t, 0, 2, WORKED, 0), 0);
@@ -178,13 +248,13 @@ static void denied_reports(struct skein_tables *t)
 	worked_tree(t, SKEIN_FS_READ_FILE);
 	expect("access", skeinrabbit_access(t, 0, 1, all, &r), -SKEIN_EACCES);
 	expect_report("access", &r, 1, WORKED & ~SKEIN_FS_READ_FILE);
-	expect("create", skeinrabbit_create(t, 0, 1, SKEIN_KIND_REGULAR, &r), -SKEIN_EACCES);
+	expect("create", skeinrabbit_create(t, 0, 1, SKEIN_KIND_REGULAR, "new", 3, &r), -SKEIN_EACCES);
 	expect_report("create", &r, 1, SKEIN_FS_MAKE_REG);
 	expect("remove", skeinrabbit_remove(t, 0, 3, &r), -SKEIN_EACCES);
 	expect_report("remove", &r, 1, SKEIN_FS_REMOVE_FILE);
-	expect("link", skeinrabbit_link(t, 0, 4, 1, &r), -SKEIN_EACCES);
+	expect("link", skeinrabbit_link(t, 0, 4, 1, "new", 3, &r), -SKEIN_EACCES);
 	expect_report("link", &r, 1, SKEIN_FS_MAKE_REG);
-	expect("rename", skeinrabbit_rename(t, 0, 4, 1, 1, 3, &r), -SKEIN_EACCES);
+	expect("rename", skeinrabbit_rename(t, 0, 4, 1, "table", 5, &r), -SKEIN_EACCES);
 	expect_report("rename", &r, 1, SKEIN_FS_MAKE_REG | SKEIN_FS_REMOVE_FILE);
 	expect("exchange", skeinrabbit_exchange(t, 0, 3, 2, 4, &r), -SKEIN_EACCES);
 	expect_report("exchange", &r, 1, SKEIN_FS_MAKE_REG | SKEIN_FS_REMOVE_FILE);
@@ -201,12 +271,12 @@ static void other_reports(struct skein_tables *t)
 	struct skein_report r = { 9, 9, 9 };
 
 	worked_tree(t, WORKED & ~SKEIN_FS_WRITE_FILE);
-	expect("rename, a right gained", skeinrabbit_rename(t, 0, 3, 2, 0, 0, &r), -SKEIN_EXDEV);
+	expect("rename, a right gained", skeinrabbit_rename(t, 0, 3, 2, "table", 5, &r), -SKEIN_EXDEV);
 	expect_report("rename, a right gained", &r, 1, SKEIN_FS_WRITE_FILE);
 	second_layer(t, SKEIN_FS_EXECUTE, 0);
-	expect("rename, REFER denied", skeinrabbit_rename(t, 0, 3, 2, 0, 0, &r), -SKEIN_EXDEV);
+	expect("rename, REFER denied", skeinrabbit_rename(t, 0, 3, 2, "table", 5, &r), -SKEIN_EXDEV);
 	expect_report("rename, REFER denied", &r, 2, SKEIN_FS_REFER);
-	expect("rename, no entry", skeinrabbit_rename(t, 0, 9, 2, 0, 0, &r), -SKEIN_ENOENT);
+	expect("rename, no entry", skeinrabbit_rename(t, 0, 9, 2, "table", 5, &r), -SKEIN_ENOENT);
 	expect_report("rename, no entry", &r, 0, 0);
 	expect("rename: entries read", (int64_t)r.entries_read, 0);
 	r.layer = r.rights = 9;
@@ -287,16 +357,19 @@ int main(void)
 {
 	struct skein_tables *const t = &tables;
 
-	expect("bytes of the tables", (int64_t)sizeof(*t), 88864);
+	expect("bytes of the tables", (int64_t)sizeof(*t), 139040);
 	expect("access, tables of zeros", skeinrabbit_access(t, 0, SKEIN_ROOT, SKEIN_FS_READ_FILE, NULL), -SKEIN_EIO);
 	expect("create_ruleset, tables of zeros", skeinrabbit_create_ruleset(t, NULL, 24, 0), -SKEIN_EIO);
 	expect("fresh, level 7", skeinrabbit_fresh(t, SKEIN_MAX_LEVEL + 1), -SKEIN_EINVAL);
 	expect("fresh, level 0", skeinrabbit_fresh(t, 0), 0);
 	expect("create_ruleset, level 0", skeinrabbit_create_ruleset(t, NULL, 24, 0), -SKEIN_EOPNOTSUPP);
 	expect("fresh", skeinrabbit_fresh(t, SKEIN_MAX_LEVEL), 0);
-	expect("create", skeinrabbit_create(t, 0, SKEIN_ROOT, SKEIN_KIND_DIRECTORY, NULL), 1);
-	expect("create", skeinrabbit_create(t, 0, 1, SKEIN_KIND_REGULAR, NULL), 2);
-	expect("create", skeinrabbit_create(t, 0, SKEIN_ROOT, SKEIN_KIND_REGULAR, NULL), 3);
+	expect("create", skeinrabbit_create(t, 0, SKEIN_ROOT, SKEIN_KIND_DIRECTORY, "cal", 3, NULL), 1);
+	expect("create", skeinrabbit_create(t, 0, 1, SKEIN_KIND_REGULAR, "table", 5, NULL), 2);
+	expect("create", skeinrabbit_create(t, 0, SKEIN_ROOT, SKEIN_KIND_REGULAR, "feed", 4, NULL), 3);
+	names(t);
+	paths(t);
+	components();
 	ruleset_calls(t);
 	domain_calls(t);
 	requests(t);

@@ -11,7 +11,6 @@
 #include "skeinrabbit.h"
 
 #define NONE UINT64_MAX
-#define NAME_SIZE 64
 
 struct connection {
 	int socket;
@@ -19,13 +18,12 @@ struct connection {
 };
 
 extern struct skein_tables tables, before;
-extern char names[SKEIN_MAX_ENTRIES][NAME_SIZE];
 extern struct connection *connection, *connections;
 extern size_t plugin_count;
 extern const uint64_t *policies;
-extern uint64_t common, directory, entry, kind, source, replaces, replaced;
+extern uint64_t common, directory, entry, kind, source;
 extern int source_fd, directory_fd;
-extern const char *source_name, *name;
+extern const char *source_name, *name, *path;
 extern struct stat status;
 
 uint64_t entry_of_file(const struct stat *status_of_file);

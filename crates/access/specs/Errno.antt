@@ -31,6 +31,9 @@ EACCES = 13
 abbrev pub EBUSY : ℕ
 EBUSY = 16
 
+abbrev pub EEXIST : ℕ
+EEXIST = 17
+
 abbrev pub EXDEV : ℕ
 EXDEV = 18
 
@@ -48,6 +51,9 @@ EMFILE = 24
 
 abbrev pub ENOSPC : ℕ
 ENOSPC = 28
+
+abbrev pub ENAMETOOLONG : ℕ
+ENAMETOOLONG = 36
 
 abbrev pub ENOTEMPTY : ℕ
 ENOTEMPTY = 39

@@ -27,6 +27,8 @@ impl Errno {
 
     pub const EBUSY: Errno = Errno(16);
 
+    pub const EEXIST: Errno = Errno(17);
+
     pub const EXDEV: Errno = Errno(18);
 
     pub const ENOTDIR: Errno = Errno(20);
@@ -38,6 +40,8 @@ impl Errno {
     pub const EMFILE: Errno = Errno(24);
 
     pub const ENOSPC: Errno = Errno(28);
+
+    pub const ENAMETOOLONG: Errno = Errno(36);
 
     pub const ENOTEMPTY: Errno = Errno(39);
 

@@ -7,21 +7,21 @@ use lib.Dec.{eqb}
 use lib.ListN.{length}
 use Rattle.tables.specs.Tables.{Tables, ruleWidth}
 use Rattle.tables.specs.Layers.{layerFirst}
-use Rattle.tables.specs.Outcome.{Outcome}
 use Rattle.domain.specs.Layer.{layerCode}
 use Rattle.codes.specs.Codes.{number, reported, reportedAccess}
+use Rattle.named.specs.Named.{Named, NamedOutcome}
 
--- an exported call answers the reply's number r, and leaves the tables T
-abbrev pub Answers : ℕ → Tables → Outcome → Type 0
-Answers r T o = (r ≡ number (o .reply)) × (T ≡ o .left)
+-- an exported call answers the reply's number r, and leaves the tables N
+abbrev pub Answers : ℕ → Named → NamedOutcome → Type 0
+Answers r N o = (r ≡ number (o .reply)) × (N ≡ o .left)
 
 -- a call with a verdict also writes a report, from `cells` to `cells′`
-abbrev pub Tells : ℕ → Tables → List ℕ → List ℕ → Outcome → Type 0
-Tells r T cells cells′ o = Answers r T o × (cells′ ≡ reported cells (o .reply))
+abbrev pub Tells : ℕ → Named → List ℕ → List ℕ → NamedOutcome → Type 0
+Tells r N cells cells′ o = Answers r N o × (cells′ ≡ reported cells (o .reply))
 
 -- access also reports how many entries' rules were read, n
-abbrev pub TellsAccess : ℕ → Tables → List ℕ → List ℕ → Outcome → ℕ → Type 0
-TellsAccess r T cells cells′ o n = Answers r T o × (cells′ ≡ reportedAccess cells (o .reply) n)
+abbrev pub TellsAccess : ℕ → Named → List ℕ → List ℕ → NamedOutcome → ℕ → Type 0
+TellsAccess r N cells cells′ o n = Answers r N o × (cells′ ≡ reportedAccess cells (o .reply) n)
 
 -- the first pool cell of a layer's rules; 0 with a refusal
 unfoldable pub spanFrom : Tables → ℕ → ℕ

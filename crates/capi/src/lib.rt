@@ -4,20 +4,19 @@
 use access::rights::Rights;
 use codes::code_of;
 use codes::number;
-use codes::replaced_by;
 use codes::report;
 use codes::report_access;
 use codes::report_denial;
 use judge::rules::cells_of;
+use path::component_span;
 use tables::rows::layer_first;
 ghost use mathlib.Core.Path.{_≡_};
 ghost use mathlib.Core.Bool.{cond};
 ghost use Prim.Native.Nat.{_*_, min};
 ghost use lib.Dec.{eqb};
 ghost use lib.ListN.{length, set};
-ghost use Rattle.tables.specs.Tables.{before, after, ruleWidth};
+ghost use Rattle.tables.specs.Tables.{ruleWidth};
 ghost use Rattle.tables.specs.Layers.{layerFirst};
-ghost use Rattle.tables.specs.Fresh.{freshened};
 ghost use Rattle.ruleset.specs.Create.{created, closed};
 ghost use Rattle.rule.specs.Rule.{pathAdded, portAdded};
 ghost use Rattle.domain_restrict.specs.Restrict.{restrictCall};
@@ -28,11 +27,11 @@ ghost use Rattle.fs_access.specs.Access.{accessCall, accessCount};
 ghost use Rattle.net.specs.Port.{portCall};
 ghost use Rattle.task.specs.Task.{taskCall};
 ghost use Rattle.task.specs.declared.Scope.the-variants.{AbstractSocket, Signal};
-ghost use Rattle.tree.specs.Create.{treeCreate, treeRemove};
-ghost use Rattle.tree.specs.Link.{treeLink};
-ghost use Rattle.tree.specs.Rename.{treeRename};
-ghost use Rattle.tree.specs.Exchange.{treeExchange};
-ghost use Rattle.codes.specs.Codes.{replacedBy};
+ghost use Rattle.names.specs.Paths.{pathChecks, found, component};
+ghost use Rattle.named.specs.Named.{namedOutcome, namedCall, lift, liftCount, liftPart, freshenedNamed};
+ghost use Rattle.named.specs.Slices.{before, after};
+ghost use Rattle.named.specs.Tree.{createNamed, removeNamed, linkNamed, renameNamed, exchangeNamed};
+ghost use Rattle.path.specs.Span.{shownStart};
 ghost use Rattle.capi.specs.Codes.{Answers, Tells, TellsAccess, spanFrom};
 
 fn span_from(layers: &[u64], cells: usize, l: u64, code: u64) -> usize
@@ -52,11 +51,21 @@ pub extern "C" fn skein_fresh(
     layers: &mut [u64],
     pool: &mut [u64],
     threads: &mut [u64],
+    names: &mut [u8],
     level: u64,
 ) -> u64
-    ensures { λ answer. ⌜ Answers answer (after system entries rulesets layers pool threads) (freshened (before system entries rulesets layers pool threads) level) ⌝ }
+    ensures { λ answer. ⌜ Answers answer (after system entries rulesets layers pool threads names) (freshenedNamed (before system entries rulesets layers pool threads names) level) ⌝ }
 {
-    number(broker::fresh(system, entries, rulesets, layers, pool, threads, level))
+    number(syscalls::fresh(
+        system,
+        entries,
+        rulesets,
+        layers,
+        pool,
+        threads,
+        names,
+        level,
+    ))
 }
 
 #[no_mangle]
@@ -67,19 +76,21 @@ pub extern "C" fn skein_create_ruleset(
     layers: &[u64],
     pool: &[u64],
     threads: &[u64],
+    names: &[u8],
     bytes: &[u8],
     flags: u64,
 ) -> u64
-    ensures answer { λ answer. ⌜ Answers answer (after system entries rulesets layers pool threads) (created (before system entries rulesets layers pool threads) (now (bytes .entry)) flags) ⌝ }
+    ensures answer { λ answer. ⌜ Answers answer (after system entries rulesets layers pool threads names) (lift (before system entries rulesets layers pool threads names) (created (before system entries rulesets layers pool threads names .core) (now (bytes .entry)) flags)) ⌝ }
     ensures bytes { λ answer. ⌜ now (bytes .exit) ≡ now (bytes .entry) ⌝ }
 {
-    number(broker_rulesets::create_ruleset(
+    number(syscalls_rulesets::create_ruleset(
         system,
         entries,
         rulesets,
         layers,
         pool,
         threads,
+        names,
         bytes,
         flags,
     ))
@@ -93,11 +104,21 @@ pub extern "C" fn skein_close_ruleset(
     layers: &[u64],
     pool: &[u64],
     threads: &[u64],
+    names: &[u8],
     r: u64,
 ) -> u64
-    ensures { λ answer. ⌜ Answers answer (after system entries rulesets layers pool threads) (closed (before system entries rulesets layers pool threads) r) ⌝ }
+    ensures { λ answer. ⌜ Answers answer (after system entries rulesets layers pool threads names) (lift (before system entries rulesets layers pool threads names) (closed (before system entries rulesets layers pool threads names .core) r)) ⌝ }
 {
-    number(broker_rulesets::close_ruleset(system, entries, rulesets, layers, pool, threads, r))
+    number(syscalls_rulesets::close_ruleset(
+        system,
+        entries,
+        rulesets,
+        layers,
+        pool,
+        threads,
+        names,
+        r,
+    ))
 }
 
 #[no_mangle]
@@ -108,20 +129,22 @@ pub extern "C" fn skein_add_path_rule(
     layers: &[u64],
     pool: &[u64],
     threads: &[u64],
+    names: &[u8],
     r: u64,
     e: u64,
     rights: u64,
     flags: u64,
 ) -> u64
-    ensures { λ answer. ⌜ Answers answer (after system entries rulesets layers pool threads) (pathAdded (before system entries rulesets layers pool threads) r e rights flags) ⌝ }
+    ensures { λ answer. ⌜ Answers answer (after system entries rulesets layers pool threads names) (lift (before system entries rulesets layers pool threads names) (pathAdded (before system entries rulesets layers pool threads names .core) r e rights flags)) ⌝ }
 {
-    number(broker_rulesets::add_path_rule(
+    number(syscalls_rulesets::add_path_rule(
         system,
         entries,
         rulesets,
         layers,
         pool,
         threads,
+        names,
         r,
         e,
         Rights(rights),
@@ -137,20 +160,22 @@ pub extern "C" fn skein_add_port_rule(
     layers: &[u64],
     pool: &[u64],
     threads: &[u64],
+    names: &[u8],
     r: u64,
     p: u64,
     rights: u64,
     flags: u64,
 ) -> u64
-    ensures { λ answer. ⌜ Answers answer (after system entries rulesets layers pool threads) (portAdded (before system entries rulesets layers pool threads) r p rights flags) ⌝ }
+    ensures { λ answer. ⌜ Answers answer (after system entries rulesets layers pool threads names) (lift (before system entries rulesets layers pool threads names) (portAdded (before system entries rulesets layers pool threads names .core) r p rights flags)) ⌝ }
 {
-    number(broker_rulesets::add_port_rule(
+    number(syscalls_rulesets::add_port_rule(
         system,
         entries,
         rulesets,
         layers,
         pool,
         threads,
+        names,
         r,
         p,
         Rights(rights),
@@ -166,19 +191,21 @@ pub extern "C" fn skein_restrict(
     layers: &mut [u64],
     pool: &mut [u64],
     threads: &mut [u64],
+    names: &[u8],
     t: u64,
     r: u64,
     flags: u64,
 ) -> u64
-    ensures { λ answer. ⌜ Answers answer (after system entries rulesets layers pool threads) (restrictCall (before system entries rulesets layers pool threads) t r flags) ⌝ }
+    ensures { λ answer. ⌜ Answers answer (after system entries rulesets layers pool threads names) (lift (before system entries rulesets layers pool threads names) (restrictCall (before system entries rulesets layers pool threads names .core) t r flags)) ⌝ }
 {
-    number(broker_domains::restrict(
+    number(syscalls_domains::restrict(
         system,
         entries,
         rulesets,
         layers,
         pool,
         threads,
+        names,
         t,
         r,
         flags,
@@ -193,11 +220,21 @@ pub extern "C" fn skein_clone(
     layers: &mut [u64],
     pool: &[u64],
     threads: &mut [u64],
+    names: &[u8],
     t: u64,
 ) -> u64
-    ensures { λ answer. ⌜ Answers answer (after system entries rulesets layers pool threads) (cloned (before system entries rulesets layers pool threads) t) ⌝ }
+    ensures { λ answer. ⌜ Answers answer (after system entries rulesets layers pool threads names) (lift (before system entries rulesets layers pool threads names) (cloned (before system entries rulesets layers pool threads names .core) t)) ⌝ }
 {
-    number(broker_domains::clone_thread(system, entries, rulesets, layers, pool, threads, t))
+    number(syscalls_domains::clone_thread(
+        system,
+        entries,
+        rulesets,
+        layers,
+        pool,
+        threads,
+        names,
+        t,
+    ))
 }
 
 #[no_mangle]
@@ -208,11 +245,12 @@ pub extern "C" fn skein_end(
     layers: &mut [u64],
     pool: &mut [u64],
     threads: &mut [u64],
+    names: &[u8],
     t: u64,
 ) -> u64
-    ensures { λ answer. ⌜ Answers answer (after system entries rulesets layers pool threads) (endCall (before system entries rulesets layers pool threads) t) ⌝ }
+    ensures { λ answer. ⌜ Answers answer (after system entries rulesets layers pool threads names) (lift (before system entries rulesets layers pool threads names) (endCall (before system entries rulesets layers pool threads names .core) t)) ⌝ }
 {
-    number(broker_domains::end_thread(system, entries, rulesets, layers, pool, threads, t))
+    number(syscalls_domains::end_thread(system, entries, rulesets, layers, pool, threads, names, t))
 }
 
 #[no_mangle]
@@ -223,11 +261,21 @@ pub extern "C" fn skein_set_no_new_privs(
     layers: &[u64],
     pool: &[u64],
     threads: &mut [u64],
+    names: &[u8],
     t: u64,
 ) -> u64
-    ensures { λ answer. ⌜ Answers answer (after system entries rulesets layers pool threads) (privsSet (before system entries rulesets layers pool threads) t) ⌝ }
+    ensures { λ answer. ⌜ Answers answer (after system entries rulesets layers pool threads names) (lift (before system entries rulesets layers pool threads names) (privsSet (before system entries rulesets layers pool threads names .core) t)) ⌝ }
 {
-    number(broker_domains::set_no_new_privs(system, entries, rulesets, layers, pool, threads, t))
+    number(syscalls_domains::set_no_new_privs(
+        system,
+        entries,
+        rulesets,
+        layers,
+        pool,
+        threads,
+        names,
+        t,
+    ))
 }
 
 #[no_mangle]
@@ -238,12 +286,23 @@ pub extern "C" fn skein_set_admin(
     layers: &[u64],
     pool: &[u64],
     threads: &mut [u64],
+    names: &[u8],
     t: u64,
     on: u64,
 ) -> u64
-    ensures { λ answer. ⌜ Answers answer (after system entries rulesets layers pool threads) (adminSet (before system entries rulesets layers pool threads) t on) ⌝ }
+    ensures { λ answer. ⌜ Answers answer (after system entries rulesets layers pool threads names) (lift (before system entries rulesets layers pool threads names) (adminSet (before system entries rulesets layers pool threads names .core) t on)) ⌝ }
 {
-    number(broker_domains::set_admin(system, entries, rulesets, layers, pool, threads, t, on))
+    number(syscalls_domains::set_admin(
+        system,
+        entries,
+        rulesets,
+        layers,
+        pool,
+        threads,
+        names,
+        t,
+        on,
+    ))
 }
 
 #[no_mangle]
@@ -254,20 +313,22 @@ pub extern "C" fn skein_access(
     layers: &[u64],
     pool: &[u64],
     threads: &[u64],
+    names: &[u8],
     t: u64,
     e: u64,
     rights: u64,
     report: &mut [u64],
 ) -> u64
-    ensures { λ answer. ⌜ TellsAccess answer (after system entries rulesets layers pool threads) (now (report .entry)) (now (report .exit)) (accessCall (before system entries rulesets layers pool threads) t e rights) (accessCount (before system entries rulesets layers pool threads) t e rights) ⌝ }
+    ensures { λ answer. ⌜ TellsAccess answer (after system entries rulesets layers pool threads names) (now (report .entry)) (now (report .exit)) (lift (before system entries rulesets layers pool threads names) (accessCall (before system entries rulesets layers pool threads names .core) t e rights)) (liftCount (before system entries rulesets layers pool threads names) (accessCount (before system entries rulesets layers pool threads names .core) t e rights)) ⌝ }
 {
-    let accessed = broker::entries::access(
+    let accessed = syscalls::access(
         system,
         entries,
         rulesets,
         layers,
         pool,
         threads,
+        names,
         t,
         e,
         Rights(rights),
@@ -285,20 +346,22 @@ pub extern "C" fn skein_port(
     layers: &[u64],
     pool: &[u64],
     threads: &[u64],
+    names: &[u8],
     t: u64,
     p: u64,
     rights: u64,
     report: &mut [u64],
 ) -> u64
-    ensures { λ answer. ⌜ Tells answer (after system entries rulesets layers pool threads) (now (report .entry)) (now (report .exit)) (portCall (before system entries rulesets layers pool threads) t p rights) ⌝ }
+    ensures { λ answer. ⌜ Tells answer (after system entries rulesets layers pool threads names) (now (report .entry)) (now (report .exit)) (lift (before system entries rulesets layers pool threads names) (portCall (before system entries rulesets layers pool threads names .core) t p rights)) ⌝ }
 {
-    let reply = broker::ports::port(
+    let reply = syscalls::port(
         system,
         entries,
         rulesets,
         layers,
         pool,
         threads,
+        names,
         t,
         p,
         Rights(rights),
@@ -315,12 +378,23 @@ pub extern "C" fn skein_signal(
     layers: &[u64],
     pool: &[u64],
     threads: &[u64],
+    names: &[u8],
     t: u64,
     u: u64,
 ) -> u64
-    ensures { λ answer. ⌜ Answers answer (after system entries rulesets layers pool threads) (taskCall (before system entries rulesets layers pool threads) t u Signal) ⌝ }
+    ensures { λ answer. ⌜ Answers answer (after system entries rulesets layers pool threads names) (lift (before system entries rulesets layers pool threads names) (taskCall (before system entries rulesets layers pool threads names .core) t u Signal)) ⌝ }
 {
-    number(broker::tasks::signal(system, entries, rulesets, layers, pool, threads, t, u))
+    number(syscalls::signal(
+        system,
+        entries,
+        rulesets,
+        layers,
+        pool,
+        threads,
+        names,
+        t,
+        u,
+    ))
 }
 
 #[no_mangle]
@@ -331,12 +405,23 @@ pub extern "C" fn skein_abstract_socket(
     layers: &[u64],
     pool: &[u64],
     threads: &[u64],
+    names: &[u8],
     t: u64,
     u: u64,
 ) -> u64
-    ensures { λ answer. ⌜ Answers answer (after system entries rulesets layers pool threads) (taskCall (before system entries rulesets layers pool threads) t u AbstractSocket) ⌝ }
+    ensures { λ answer. ⌜ Answers answer (after system entries rulesets layers pool threads names) (lift (before system entries rulesets layers pool threads names) (taskCall (before system entries rulesets layers pool threads names .core) t u AbstractSocket)) ⌝ }
 {
-    number(broker::tasks::abstract_socket(system, entries, rulesets, layers, pool, threads, t, u))
+    number(syscalls::abstract_socket(
+        system,
+        entries,
+        rulesets,
+        layers,
+        pool,
+        threads,
+        names,
+        t,
+        u,
+    ))
 }
 
 #[no_mangle]
@@ -347,23 +432,27 @@ pub extern "C" fn skein_create(
     layers: &[u64],
     pool: &[u64],
     threads: &[u64],
+    names: &mut [u8],
     t: u64,
     d: u64,
     k: u64,
+    name: &[u8],
     report: &mut [u64],
 ) -> u64
-    ensures { λ answer. ⌜ Tells answer (after system entries rulesets layers pool threads) (now (report .entry)) (now (report .exit)) (treeCreate (before system entries rulesets layers pool threads) t d k) ⌝ }
+    ensures { λ answer. ⌜ Tells answer (after system entries rulesets layers pool threads names) (now (report .entry)) (now (report .exit)) (createNamed (before system entries rulesets layers pool threads names) t d k (now (name .entry))) ⌝ }
 {
-    let reply = broker_tree::create::create(
+    let reply = syscalls_tree::create(
         system,
         entries,
         rulesets,
         layers,
         pool,
         threads,
+        names,
         t,
         d,
         k,
+        name,
     );
     report_denial(report, reply);
     number(reply)
@@ -377,13 +466,24 @@ pub extern "C" fn skein_remove(
     layers: &[u64],
     pool: &[u64],
     threads: &[u64],
+    names: &mut [u8],
     t: u64,
     e: u64,
     report: &mut [u64],
 ) -> u64
-    ensures { λ answer. ⌜ Tells answer (after system entries rulesets layers pool threads) (now (report .entry)) (now (report .exit)) (treeRemove (before system entries rulesets layers pool threads) t e) ⌝ }
+    ensures { λ answer. ⌜ Tells answer (after system entries rulesets layers pool threads names) (now (report .entry)) (now (report .exit)) (removeNamed (before system entries rulesets layers pool threads names) t e) ⌝ }
 {
-    let reply = broker_tree::remove::remove(system, entries, rulesets, layers, pool, threads, t, e);
+    let reply = syscalls_tree::remove(
+        system,
+        entries,
+        rulesets,
+        layers,
+        pool,
+        threads,
+        names,
+        t,
+        e,
+    );
     report_denial(report, reply);
     number(reply)
 }
@@ -396,14 +496,28 @@ pub extern "C" fn skein_link(
     layers: &[u64],
     pool: &[u64],
     threads: &[u64],
+    names: &mut [u8],
     t: u64,
     s: u64,
     d: u64,
+    name: &[u8],
     report: &mut [u64],
 ) -> u64
-    ensures { λ answer. ⌜ Tells answer (after system entries rulesets layers pool threads) (now (report .entry)) (now (report .exit)) (treeLink (before system entries rulesets layers pool threads) t s d) ⌝ }
+    ensures { λ answer. ⌜ Tells answer (after system entries rulesets layers pool threads names) (now (report .entry)) (now (report .exit)) (linkNamed (before system entries rulesets layers pool threads names) t s d (now (name .entry))) ⌝ }
 {
-    let reply = broker_moves::link(system, entries, rulesets, layers, pool, threads, t, s, d);
+    let reply = syscalls_tree::link(
+        system,
+        entries,
+        rulesets,
+        layers,
+        pool,
+        threads,
+        names,
+        t,
+        s,
+        d,
+        name,
+    );
     report_denial(report, reply);
     number(reply)
 }
@@ -416,26 +530,27 @@ pub extern "C" fn skein_rename(
     layers: &[u64],
     pool: &[u64],
     threads: &[u64],
+    names: &mut [u8],
     t: u64,
     s: u64,
     d: u64,
-    replaces: u64,
-    x: u64,
+    name: &[u8],
     report: &mut [u64],
 ) -> u64
-    ensures { λ answer. ⌜ Tells answer (after system entries rulesets layers pool threads) (now (report .entry)) (now (report .exit)) (treeRename (before system entries rulesets layers pool threads) t s d (replacedBy replaces x)) ⌝ }
+    ensures { λ answer. ⌜ Tells answer (after system entries rulesets layers pool threads names) (now (report .entry)) (now (report .exit)) (renameNamed (before system entries rulesets layers pool threads names) t s d (now (name .entry))) ⌝ }
 {
-    let reply = broker_moves::rename(
+    let reply = syscalls_tree::rename(
         system,
         entries,
         rulesets,
         layers,
         pool,
         threads,
+        names,
         t,
         s,
         d,
-        replaced_by(replaces, x),
+        name,
     );
     report_denial(report, reply);
     number(reply)
@@ -449,21 +564,23 @@ pub extern "C" fn skein_exchange(
     layers: &[u64],
     pool: &[u64],
     threads: &[u64],
+    names: &mut [u8],
     t: u64,
     s: u64,
     d: u64,
     x: u64,
     report: &mut [u64],
 ) -> u64
-    ensures { λ answer. ⌜ Tells answer (after system entries rulesets layers pool threads) (now (report .entry)) (now (report .exit)) (treeExchange (before system entries rulesets layers pool threads) t s d x) ⌝ }
+    ensures { λ answer. ⌜ Tells answer (after system entries rulesets layers pool threads names) (now (report .entry)) (now (report .exit)) (exchangeNamed (before system entries rulesets layers pool threads names) t s d x) ⌝ }
 {
-    let reply = broker_moves::exchange(
+    let reply = syscalls_tree::exchange(
         system,
         entries,
         rulesets,
         layers,
         pool,
         threads,
+        names,
         t,
         s,
         d,
@@ -482,20 +599,22 @@ pub extern "C" fn skein_layer_rules(
     layers: &[u64],
     pool: &[u64],
     threads: &[u64],
+    names: &[u8],
     l: u64,
     span: &mut [u64],
 ) -> u64
-    ensures answer { λ r. ⌜ Answers r (after system entries rulesets layers pool threads) (layerRead (before system entries rulesets layers pool threads) l) ⌝ }
-    ensures part { λ r. ⌜ now (span .exit) ≡ set (set (now (span .entry)) 0 (spanFrom (before system entries rulesets layers pool threads) l)) 1 (length (layerPart (before system entries rulesets layers pool threads) l)) ⌝ }
+    ensures answer { λ r. ⌜ Answers r (after system entries rulesets layers pool threads names) (lift (before system entries rulesets layers pool threads names) (layerRead (before system entries rulesets layers pool threads names .core) l)) ⌝ }
+    ensures part { λ r. ⌜ now (span .exit) ≡ set (set (now (span .entry)) 0 (liftCount (before system entries rulesets layers pool threads names) (spanFrom (before system entries rulesets layers pool threads names .core) l))) 1 (length (liftPart (before system entries rulesets layers pool threads names) (layerPart (before system entries rulesets layers pool threads names .core) l))) ⌝ }
 {
     let mut code = 0;
-    let rules = broker_domains::layer_rules(
+    let rules = syscalls_domains::layer_rules(
         system,
         entries,
         rulesets,
         layers,
         pool,
         threads,
+        names,
         l,
         &mut code,
     );
@@ -503,4 +622,40 @@ pub extern "C" fn skein_layer_rules(
     let from = span_from(layers, pool.len(), l, code) as u64;
     report(span, from, count);
     code_of(code)
+}
+
+#[no_mangle]
+pub extern "C" fn skein_lookup(
+    system: &[u64],
+    entries: &[u64],
+    rulesets: &[u64],
+    layers: &[u64],
+    pool: &[u64],
+    threads: &[u64],
+    names: &[u8],
+    path: &[u8],
+) -> u64
+    ensures { λ answer. ⌜ Answers answer (after system entries rulesets layers pool threads names) (namedCall (before system entries rulesets layers pool threads names) (pathChecks (now (path .entry))) (namedOutcome (found (now (entries .entry)) (now (names .entry)) (now (path .entry))) (before system entries rulesets layers pool threads names))) ⌝ }
+{
+    number(syscalls::lookup(
+        system,
+        entries,
+        rulesets,
+        layers,
+        pool,
+        threads,
+        names,
+        path,
+    ))
+}
+
+// `cells` receives where the first component at or after the place starts, and its length: 0 and 0 if there is none.
+#[no_mangle]
+pub extern "C" fn skein_component(path: &[u8], place: u64, cells: &mut [u64]) -> u64
+    ensures answer { λ r. ⌜ r ≡ 0 ⌝ }
+    ensures part { λ r. ⌜ now (cells .exit) ≡ set (set (now (cells .entry)) 0 (shownStart (now (path .entry)) place)) 1 (length (component (now (path .entry)) place)) ⌝ }
+{
+    let span = component_span(path, place);
+    report(cells, span.start, span.length);
+    0
 }

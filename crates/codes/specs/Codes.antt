@@ -1,4 +1,4 @@
--- The numbers that stand for a reply, and for an entry or none.
+-- The numbers that stand for a reply.
 use mathlib.Core.Bool.{cond}
 use mathlib.Core.List.{List}
 use Prim.Native.Nat.{ℕ, _+_, _-_, _^_}
@@ -7,8 +7,6 @@ use lib.ListN.{set}
 use Rattle.access.specs.Limits.{maxLayers}
 use Rattle.access.specs.declared.errno.Reply.{Reply}
 use Rattle.access.specs.declared.errno.Reply.the-variants.{Done, Refused, Denied}
-use Rattle.tree.specs.declared.Replaced.{Replaced}
-use Rattle.tree.specs.declared.Replaced.the-variants.{None, Entry}
 
 -- an error number, as C reads it in a signed number: 2^64 minus it; no error is 0
 unfoldable pub codeOf : ℕ → ℕ
@@ -46,7 +44,3 @@ reported cells r = set (set cells 0 (said r .layer)) 1 (said r .rights)
 -- the report of an access: also how many entries' rules were read
 unfoldable pub reportedAccess : List ℕ → Reply → ℕ → List ℕ
 reportedAccess cells r n = set (reported cells r) 2 n
-
--- the entry that a rename replaces, if `replaces` is not 0
-unfoldable pub replacedBy : ℕ → ℕ → Replaced
-replacedBy replaces x = cond (eqb replaces 0) None (Entry x)

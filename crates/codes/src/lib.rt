@@ -1,11 +1,10 @@
-// How numbers stand for what the calls take and answer.
+// How numbers stand for what the calls answer.
 use access::errno::Reply;
 use access::limits::MAX_LAYERS;
 use cells::write;
-use tree::Replaced;
 ghost use mathlib.Core.Path.{_≡_};
 ghost use lib.ListN.{set};
-ghost use Rattle.codes.specs.Codes.{codeOf, number, layerCell, said, reported, reportedAccess, replacedBy};
+ghost use Rattle.codes.specs.Codes.{codeOf, number, layerCell, said, reported, reportedAccess};
 
 // An error number as C reads it in a signed number; no error is 0.
 pub fn code_of(e: u64) -> u64
@@ -55,17 +54,6 @@ fn denied_rights(reply: Reply) -> u64
         Reply::Done(_) => 0,
         Reply::Refused(_) => 0,
         Reply::Denied(_, _, rights) => rights.0,
-    }
-}
-
-// The entry that a rename replaces, if `replaces` is not 0.
-pub fn replaced_by(replaces: u64, x: u64) -> Replaced
-    ensures { λ r. ⌜ r ≡ replacedBy replaces x ⌝ }
-{
-    if replaces == 0 {
-        Replaced::None
-    } else {
-        Replaced::Entry(x)
     }
 }
 

@@ -82,7 +82,7 @@ module _ (p : ℕ → Bool) where
 
 -- ---- the first number that passes
 module _ (p : ℕ → Bool) where
-  from-passes : (n i : ℕ) → firstFrom p n i < i + n → p (firstFrom p n i) ≡ true
+  pub from-passes : (n i : ℕ) → firstFrom p n i < i + n → p (firstFrom p n i) ≡ true
   unfolding firstFrom
   from-passes zero i h = absurd (omega arith)
   from-passes (suc n) i h = split (p i) (λ q. rw q q) (λ q. rw q (from-passes n (suc i) (let k = rw q at h in omega arith)))
@@ -95,7 +95,12 @@ module _ (p : ℕ → Bool) where
       (λ q. split (eqb i j) (λ e. rw (← eqb-true i j e) q)
       (λ e. from-least n (suc i) j (let d : (i ≡ j → ⊥) = eqb-false i j e in omega arith) (rw q at h)))
 
-  from-bound : (n i : ℕ) → firstFrom p n i ≤ i + n
+  pub from-past : (n i : ℕ) → i ≤ firstFrom p n i
+  unfolding firstFrom
+  from-past zero i = omega arith
+  from-past (suc n) i = split (p i) (λ q. rw q (omega arith)) (λ q. rw q (let k = from-past n (suc i) in omega arith))
+
+  pub from-bound : (n i : ℕ) → firstFrom p n i ≤ i + n
   unfolding firstFrom
   from-bound zero i = omega arith
   from-bound (suc n) i = split (p i) (λ q. rw q (omega arith)) (λ q. rw q (let k = from-bound n (suc i) in omega arith))

@@ -1,4 +1,4 @@
-// What the benchmark in rust/bench measures, exported for it: the rule scan, the climb, the verdicts and the soundness test.
+// What the benchmark in rust/bench measures, exported for it: the rule scan, the climb, the verdicts and the soundness tests.
 use access::limits::MAX_ENTRIES;
 use access::rights::Rights;
 use tables::rows::PATH_RULE;
@@ -20,6 +20,7 @@ ghost use Rattle.fs.specs.Move.{verdict};
 ghost use Rattle.tree.specs.declared.Replaced.the-variants.{None};
 ghost use Rattle.tree.specs.Moves.{renameMove};
 ghost use Rattle.sound.specs.Sound.{sound};
+ghost use Rattle.names.specs.Names.{namesSound};
 
 #[no_mangle]
 pub extern "C" fn skein_measure_rights_on(rules: &[u64], object: u64) -> u64
@@ -80,6 +81,17 @@ pub extern "C" fn skein_measure_sound(
     ensures { λ r. ⌜ r ≡ cond (sound (before system entries rulesets layers pool threads)) 1 0 ⌝ }
 {
     if sound::is_sound(system, entries, rulesets, layers, pool, threads) {
+        1
+    } else {
+        0
+    }
+}
+
+#[no_mangle]
+pub extern "C" fn skein_measure_names(entries: &[u64], names: &[u8]) -> u64
+    ensures { λ r. ⌜ r ≡ cond (namesSound (now (entries .entry)) (now (names .entry))) 1 0 ⌝ }
+{
+    if sound_names::names_sound(entries, names) {
         1
     } else {
         0

@@ -106,7 +106,7 @@ fn create_later(
     0
 }
 
-fn create_checks(
+pub fn create_checks(
     system: &[u64],
     entries: &[u64],
     rulesets: &[u64],
@@ -132,7 +132,7 @@ fn create_checks(
     Reply::to(create_later(system, entries, rulesets, layers, pool, threads, e))
 }
 
-fn apply_create(
+pub fn apply_create(
     system: &mut [u64],
     entries: &mut [u64],
     rulesets: &[u64],

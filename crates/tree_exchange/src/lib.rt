@@ -98,7 +98,7 @@ fn exchange_denial(
     )
 }
 
-fn exchange_checks(
+pub fn exchange_checks(
     system: &[u64],
     entries: &[u64],
     rulesets: &[u64],
@@ -124,7 +124,7 @@ fn exchange_checks(
 }
 
 // Swaps the parents; two entries of one object stay as they are.
-fn apply_exchange(entries: &mut [u64], s: u64, d: u64, x: u64)
+pub fn apply_exchange(entries: &mut [u64], s: u64, d: u64, x: u64)
     ensures { λ r. ⌜ now (entries .exit) ≡ swapped (now (entries .entry)) s d x ⌝ }
 {
     if same_object(entries, s, x) {

@@ -91,7 +91,7 @@ fn link_later(
     0
 }
 
-fn link_checks(
+pub fn link_checks(
     system: &[u64],
     entries: &[u64],
     rulesets: &[u64],
@@ -117,7 +117,7 @@ fn link_checks(
     Reply::to(link_later(system, entries, rulesets, layers, pool, threads, e))
 }
 
-fn apply_link(entries: &mut [u64], s: u64, d: u64, e: usize)
+pub fn apply_link(entries: &mut [u64], s: u64, d: u64, e: usize)
     requires { ⌜ e ≡ freeEntry (now entries) ⌝ }
     ensures { λ r. ⌜ now (entries .exit) ≡ linked (now (entries .entry)) s d ⌝ }
 {

@@ -87,7 +87,7 @@ fn remove_later(
     0
 }
 
-fn remove_checks(
+pub fn remove_checks(
     system: &[u64],
     entries: &[u64],
     rulesets: &[u64],

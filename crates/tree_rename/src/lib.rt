@@ -120,7 +120,7 @@ fn rename_later(entries: &[u64], s: u64, x: Replaced) -> u64
     0
 }
 
-fn rename_checks(
+pub fn rename_checks(
     system: &[u64],
     entries: &[u64],
     rulesets: &[u64],
@@ -160,7 +160,7 @@ fn drop_replaced(entries: &mut [u64], x: Replaced)
 }
 
 // Moves the entry; two entries of one object stay as they are.
-fn apply_rename(entries: &mut [u64], s: u64, d: u64, x: Replaced)
+pub fn apply_rename(entries: &mut [u64], s: u64, d: u64, x: Replaced)
     ensures { λ r. ⌜ now (entries .exit) ≡ moved (now (entries .entry)) s d x ⌝ }
 {
     if is_same(entries, s, x) {

@@ -1,5 +1,6 @@
-//! The parts of the proved core that `rt staticlib measured` exports, with no soundness test in front.
+//! The parts of the proved core that `rt staticlib measured` exports, with no soundness test in front; and that test.
 
+use crate::landlock::ESRCH;
 use crate::tables::Tables;
 
 extern "C" {
@@ -37,20 +38,6 @@ extern "C" {
         thread: u64,
         source: u64,
         directory: u64,
-    ) -> u64;
-    fn skein_measure_sound(
-        system: *const u64,
-        system_len: usize,
-        entries: *const u64,
-        entries_len: usize,
-        rulesets: *const u64,
-        rulesets_len: usize,
-        layers: *const u64,
-        layers_len: usize,
-        pool: *const u64,
-        pool_len: usize,
-        threads: *const u64,
-        threads_len: usize,
     ) -> u64;
 }
 
@@ -119,14 +106,8 @@ pub fn rename_verdict(tables: &Tables, thread: u64, source: u64, directory: u64)
     }
 }
 
-/// Whether the tables are sound.
+/// Whether the tables are sound, names included: an access of no thread tests this, then refuses.
 pub fn is_sound(tables: &Tables) -> bool {
-    let [system, entries, rulesets, layers, pool, threads] = tables.all().map(|table| cells(table));
-    let answer = unsafe {
-        skein_measure_sound(
-            system.0, system.1, entries.0, entries.1, rulesets.0, rulesets.1, layers.0, layers.1,
-            pool.0, pool.1, threads.0, threads.1,
-        )
-    };
-    answer != 0
+    let answer = skeinrabbit_sys::access(tables.shared(), u64::MAX, 0, 0, &mut []);
+    answer == ESRCH.wrapping_neg()
 }

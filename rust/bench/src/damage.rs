@@ -3,7 +3,7 @@
 use crate::landlock::OBJECTS_END;
 use crate::tables::{Tables, HOLDERS};
 use random::Random;
-use skeinrabbit_sys::layout::{LAYER_WIDTH, MAX_DOMAIN, RULE_WIDTH, WIDTHS};
+use skeinrabbit_sys::layout::{LAYER_WIDTH, MAX_DOMAIN, NAME_WIDTH, RULE_WIDTH, WIDTHS};
 
 /// The tables with one or two cells changed, or with a table of wrong length.
 pub fn damaged(tables: &Tables, random: &mut Random) -> Tables {
@@ -16,7 +16,29 @@ pub fn damaged(tables: &Tables, random: &mut Random) -> Tables {
     if random.below(4) == 0 {
         poke(&mut variant, random);
     }
+    if random.below(3) == 0 {
+        variant = tables.clone();
+        poke_name(&mut variant, random);
+    }
     variant
+}
+
+/// Changes a byte of a row of the names, mostly of one in use, or makes the row that of another entry.
+fn poke_name(tables: &mut Tables, random: &mut Random) {
+    let rows = tables.live_entries().min(1023) + 1;
+    let [row, other] = [(); 2].map(|()| NAME_WIDTH * random.below(rows) as usize);
+    if random.below(4) == 0 {
+        tables.names.copy_within(other..other + NAME_WIDTH, row);
+        return;
+    }
+    let length = u64::from(tables.names[row]);
+    let column = match random.below(8) {
+        0 => 0,
+        1 => random.below(NAME_WIDTH as u64),
+        _ => 1 + random.below(length + 1),
+    };
+    let byte = random.pick(&[0, 1, 48, 49, b'/', b'.', b'e', 255]);
+    tables.names[row + (column as usize).min(NAME_WIDTH - 1)] = byte;
 }
 
 /// Variants at limits that random damage rarely meets.
@@ -43,6 +65,7 @@ pub fn at_limits(tables: &Tables) -> Vec<Tables> {
         add(&|variant| variant.system[used] += 1);
         add(&|variant| variant.system[used] = variant.system[used].wrapping_sub(1));
     }
+    add(&|variant| *variant.names.last_mut().unwrap() = 1);
     for table in 0..6 {
         add(&|variant| *variant.all_mut()[table].last_mut().unwrap() = 1);
     }
@@ -71,7 +94,12 @@ fn one_domain(tables: &mut Tables, layers: usize) {
 }
 
 fn resize(tables: &mut Tables, random: &mut Random) {
-    let table = random.below(6) as usize;
+    let table = random.below(7) as usize;
+    if table == 6 {
+        let length = random.pick(&[0, tables.names.len() - 1, tables.names.len() + 1]);
+        tables.names.resize(length, 0);
+        return;
+    }
     let cells = &mut tables.all_mut()[table];
     let length = random.pick(&[0, cells.len() - 1, cells.len() + 1]);
     cells.resize(length, 0);

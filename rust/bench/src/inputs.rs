@@ -133,6 +133,52 @@ pub fn linked() -> Tables {
     build.tables
 }
 
+/// The root and 999 files in it whose names, as long as can be, begin alike.
+pub fn long_names() -> Tables {
+    let mut build = Build::new(8);
+    build.name = |entry| format!("{entry:0>48}").into_bytes();
+    for _ in 1..1000 {
+        build.entry(REGULAR, 0);
+    }
+    build.tables
+}
+
+/// The root and 999 files in it whose names all fall into one bucket of the soundness test: the second word of each undoes what the first
+/// one, eight digits, brings into the fold.
+pub fn one_bucket() -> Tables {
+    // With it no byte of a second word is a slash or 0.
+    const FOLD: u64 = 0x4040_4040_4040_4040;
+    let mut build = Build::new(9);
+    build.name = |entry| {
+        let digits = format!("{entry:08x}").into_bytes();
+        let last_first = digits.iter().rev();
+        let first = last_first.fold(0u64, |word, digit| word << 8 | u64::from(*digit));
+        let second = first.rotate_left(19) ^ FOLD;
+        [digits, second.to_le_bytes().to_vec()].concat()
+    };
+    for _ in 1..1000 {
+        build.entry(REGULAR, 0);
+    }
+    build.tables
+}
+
+/// A tree of 1,000 entries with a directory in each of so many, and files beside it. The last entry is a file in the deepest one.
+pub fn nested(depth: u64) -> Tables {
+    let mut build = Build::new(10);
+    let files = (1000 - depth) / depth - 1;
+    let mut directory = 0;
+    for _ in 1..depth {
+        for _ in 0..files {
+            build.entry(REGULAR, directory);
+        }
+        directory = build.entry(DIRECTORY, directory);
+    }
+    while build.entries < 1000 {
+        build.entry(REGULAR, directory);
+    }
+    build.tables
+}
+
 /// The tables with every object number multiplied. By 1,024 all fall into one bucket, and differ in the digits next to it; by 2^22, as much as the
 /// counter allows, in the highest digits alone, which makes the tree deepest.
 pub fn spread(mut tables: Tables, factor: u64) -> Tables {
@@ -155,6 +201,7 @@ struct Build {
     random: Random,
     entries: u64,
     refer: Refer,
+    name: fn(u64) -> Vec<u8>,
 }
 
 impl Build {
@@ -165,6 +212,7 @@ impl Build {
             random: Random::new(seed),
             entries: 0,
             refer: Refer::Everywhere,
+            name: |entry| format!("entry-{entry}").into_bytes(),
         };
         build.tables.system[0] = LAST_LEVEL;
         build.entry(DIRECTORY, 0);
@@ -182,6 +230,9 @@ impl Build {
     fn put(&mut self, kind: u64, parent: u64, object: u64) -> u64 {
         let entry = self.entries;
         self.tables.put_entry(entry, [kind, parent, object]);
+        if entry != 0 {
+            self.tables.put_name(entry, &(self.name)(entry));
+        }
         self.entries += 1;
         entry
     }

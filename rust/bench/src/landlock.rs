@@ -30,10 +30,12 @@ pub const EIO: u64 = 5;
 pub const EAGAIN: u64 = 11;
 pub const EACCES: u64 = 13;
 pub const EBUSY: u64 = 16;
+pub const EEXIST: u64 = 17;
 pub const EXDEV: u64 = 18;
 pub const ENOTDIR: u64 = 20;
 pub const EINVAL: u64 = 22;
 pub const ENOSPC: u64 = 28;
+pub const ENAMETOOLONG: u64 = 36;
 pub const ENOTEMPTY: u64 = 39;
 
 /// The rights that a layer handles, by the file system mask asked for.

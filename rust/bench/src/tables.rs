@@ -1,7 +1,9 @@
-//! The six tables of cells that both sides work on.
+//! The seven tables that both sides work on.
 
-use skeinrabbit_sys::layout::{ENTRY_WIDTH, LAYER_WIDTH, MAX_ENTRIES, SIZES, THREAD_WIDTH};
-use skeinrabbit_sys::Cells;
+use skeinrabbit_sys::layout::{
+    ENTRY_WIDTH, LAYER_WIDTH, MAX_ENTRIES, NAMES_SIZE, NAME_WIDTH, SIZES, THREAD_WIDTH,
+};
+use skeinrabbit_sys::{Cells, SharedCells};
 
 /// The cell of a layer that counts its holders.
 pub const HOLDERS: usize = LAYER_WIDTH - 1;
@@ -14,6 +16,7 @@ pub struct Tables {
     pub layers: Vec<u64>,
     pub pool: Vec<u64>,
     pub threads: Vec<u64>,
+    pub names: Vec<u8>,
 }
 
 impl Tables {
@@ -26,6 +29,7 @@ impl Tables {
             layers,
             pool,
             threads,
+            names: vec![0; NAMES_SIZE],
         }
     }
 
@@ -38,9 +42,24 @@ impl Tables {
             layers: &mut self.layers,
             pool: &mut self.pool,
             threads: &mut self.threads,
+            names: &mut self.names,
         }
     }
 
+    /// The tables as the core's requests take them.
+    pub fn shared(&self) -> SharedCells<'_> {
+        SharedCells {
+            system: &self.system,
+            entries: &self.entries,
+            rulesets: &self.rulesets,
+            layers: &self.layers,
+            pool: &self.pool,
+            threads: &self.threads,
+            names: &self.names,
+        }
+    }
+
+    /// The tables of 64-bit cells.
     pub fn all(&self) -> [&Vec<u64>; 6] {
         [
             &self.system,
@@ -55,7 +74,11 @@ impl Tables {
     /// The sum of all cells: what it takes to read each once.
     pub fn sum(&self) -> u64 {
         let sum = |cells: &Vec<u64>| cells.iter().copied().fold(0, u64::wrapping_add);
-        self.all().map(sum).into_iter().fold(0, u64::wrapping_add)
+        let names = words_of(&self.names).fold(0, u64::wrapping_add);
+        self.all()
+            .map(sum)
+            .into_iter()
+            .fold(names, u64::wrapping_add)
     }
 
     pub fn all_mut(&mut self) -> [&mut Vec<u64>; 6] {
@@ -74,6 +97,31 @@ impl Tables {
         for (to, from) in self.all_mut().into_iter().zip(other.all()) {
             to.copy_from_slice(from);
         }
+        self.names.copy_from_slice(&other.names);
+    }
+
+    /// An entry's name.
+    pub fn name(&self, entry: u64) -> &[u8] {
+        let row = &self.names[NAME_WIDTH * entry as usize..][..NAME_WIDTH];
+        &row[1..][..row[0].into()]
+    }
+
+    /// The row of an entry's name; without a name it is zero.
+    pub fn put_name(&mut self, entry: u64, name: &[u8]) {
+        let row = &mut self.names[NAME_WIDTH * entry as usize..][..NAME_WIDTH];
+        row.fill(0);
+        row[0] = name.len() as u8;
+        row[1..][..name.len()].copy_from_slice(name);
+    }
+
+    /// The path of an entry.
+    pub fn path(&self, mut entry: u64) -> Vec<u8> {
+        let mut path = Vec::new();
+        while entry != 0 {
+            path.splice(..0, [b"/", self.name(entry)].concat());
+            entry = self.parent(entry);
+        }
+        path
     }
 
     /// An entry's kind; 0 for a number that is no live entry's.
@@ -126,4 +174,10 @@ impl Tables {
         let rows = self.entries.chunks_exact(ENTRY_WIDTH);
         rows.take_while(|row| row[0] != 0).count() as u64
     }
+}
+
+/// The bytes as words of eight; bytes past the last whole one are left out.
+pub fn words_of(bytes: &[u8]) -> impl Iterator<Item = u64> + '_ {
+    let words = bytes.chunks_exact(8);
+    words.map(|word| word.try_into().map_or(0, u64::from_le_bytes))
 }

@@ -8,7 +8,7 @@ use model::tables::Table::{self, *};
 use model::tables::Tables;
 use std::iter::successors;
 
-/// The six tables.
+/// The seven tables.
 #[derive(Clone)]
 pub struct Broker {
     tables: Tables,
@@ -57,6 +57,19 @@ impl Broker {
 
     pub fn object(&self, entry: u64) -> u64 {
         self.cell(Entries, entry, 2)
+    }
+
+    /// An entry's name in its directory; empty for the root.
+    pub fn name(&self, entry: u64) -> String {
+        let row = self.tables.name_row(entry as usize);
+        String::from_utf8_lossy(&row[1..=row[0] as usize]).into_owned()
+    }
+
+    /// The entry that bears a name in a directory.
+    pub fn bearer(&self, directory: u64, name: &[u8]) -> Option<u64> {
+        let mut entries = self.live_entries().into_iter().filter(|&entry| entry != 0);
+        entries
+            .find(|&entry| self.parent(entry) == directory && self.name(entry).as_bytes() == name)
     }
 
     pub fn is_live(&self, entry: u64) -> bool {

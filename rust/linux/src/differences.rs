@@ -5,7 +5,11 @@ use crate::kernel::MAX_KERNEL_DOMAIN;
 use crate::operation::Operation;
 use crate::rights::*;
 use model::call::Call;
+use model::names::LONGEST_NAME;
 use model::state::{MAX_RULES, MAX_THREADS, POOL_PLACES};
+
+/// The bytes that a name has at most in Linux.
+const NAME_MAX: usize = 255;
 
 /// What a call was answered. The tables are those before it.
 #[derive(Clone, Copy)]
@@ -62,7 +66,7 @@ pub fn compare(answers: &Answers) -> Comparison {
         .map_or(Comparison::Unknown, Comparison::Known)
 }
 
-pub const CLASSES: [Class; 19] = [
+pub const CLASSES: [Class; 23] = [
     Class {
         name: "refer-of-domain",
         linux: "every layer of a domain handles REFER as soon as one of them has a file system mask",
@@ -83,7 +87,7 @@ pub const CLASSES: [Class; 19] = [
     },
     Class {
         name: "link-root",
-        linux: "the root is linked like any directory: ENOTDIR, the verdict, EPERM",
+        linux: "the root is linked like any directory: ENOTDIR, ENAMETOOLONG, EEXIST, the verdict, EPERM",
         paper: "root as source, replaced, exchanged or removed EBUSY",
         applies: link_root,
     },
@@ -96,15 +100,41 @@ pub const CLASSES: [Class; 19] = [
     },
     Class {
         name: "paths-before-entries",
-        linux: "both directories are looked up, then names that cannot be moved are EBUSY, then the entries are looked up",
+        linux: "both directories are looked up, then names that cannot be moved, \".\" and \"..\" among them, are EBUSY, then the entries \
+                are looked up",
         paper: "any named entry not live ENOENT; root as source, replaced, exchanged or removed EBUSY; target not a directory ENOTDIR",
         applies: paths_before_entries,
     },
     Class {
         name: "unknown-kind-first",
         linux: "mknod(2) tests the file type before the path",
-        paper: "any named entry not live ENOENT; [..] target not a directory ENOTDIR; unknown kind EINVAL",
+        paper: "any named entry not live ENOENT; [..] target not a directory ENOTDIR; unknown kind EINVAL; W1: after the target's ENOTDIR \
+                come a bad name [..], then for create and link a taken one, EEXIST",
         applies: unknown_kind_first,
+    },
+    Class {
+        name: "name-of-dots",
+        linux: "\".\" and \"..\" are names that are there: EEXIST, and EBUSY for a rename",
+        paper: "W1: not \".\" or \"..\"; [..] a bad name (over-long ENAMETOOLONG, else EINVAL)",
+        applies: name_of_dots,
+    },
+    Class {
+        name: "length-of-a-name",
+        linux: "a name has up to 255 bytes",
+        paper: "W1: a name of 1 to 48 bytes; [..] over-long ENAMETOOLONG",
+        applies: length_of_a_name,
+    },
+    Class {
+        name: "path-from-elsewhere",
+        linux: "a path without a leading slash starts at a directory that the caller names",
+        paper: "W1: no leading slash or a zero byte EINVAL",
+        applies: path_from_elsewhere,
+    },
+    Class {
+        name: "symlink-on-the-way",
+        linux: "a symlink in a path, or before a closing slash, is followed; told not to, openat2(2) answers ELOOP",
+        paper: "W1: a symlink is never followed; [..] after a non-directory ENOTDIR (a closing slash there too)",
+        applies: symlink_on_the_way,
     },
     Class {
         name: "version-flags",
@@ -198,17 +228,20 @@ fn link_directory(d: &Answers) -> bool {
 fn link_root(d: &Answers) -> bool {
     matches!(d.call, Call::Link { source: 0, .. })
         && d.ours == -EBUSY
-        && [-ENOTDIR, -EACCES, -EXDEV, -EPERM].contains(&d.linux)
+        && [-ENOTDIR, -ENAMETOOLONG, -EEXIST, -EACCES, -EXDEV, -EPERM].contains(&d.linux)
 }
 
 fn replaced_above_source(d: &Answers) -> bool {
     let Call::Rename {
+        ref name,
         source,
-        replaces: 1,
-        entry,
+        directory,
         ..
     } = *d.call
     else {
+        return false;
+    };
+    let Some(entry) = d.tables.bearer(directory, name) else {
         return false;
     };
     entry != source
@@ -221,12 +254,8 @@ fn replaced_above_source(d: &Answers) -> bool {
 fn paths_before_entries(d: &Answers) -> bool {
     let (source, directory, other) = match *d.call {
         Call::Rename {
-            source,
-            directory,
-            replaces,
-            entry,
-            ..
-        } => (source, directory, (replaces != 0).then_some(entry)),
+            source, directory, ..
+        } => (source, directory, None),
         Call::Exchange {
             source,
             directory,
@@ -235,7 +264,7 @@ fn paths_before_entries(d: &Answers) -> bool {
         } => (source, directory, Some(entry)),
         _ => return false,
     };
-    let names_root = source == 0 || other == Some(0);
+    let names_root = source == 0 || other == Some(0) || is_dots(d.call);
     let names_absent = [Some(source), other]
         .into_iter()
         .flatten()
@@ -254,7 +283,56 @@ fn paths_before_entries(d: &Answers) -> bool {
 fn unknown_kind_first(d: &Answers) -> bool {
     matches!(*d.call, Call::Create { kind, .. } if !(REGULAR..=SYMLINK).contains(&kind))
         && d.linux == -EINVAL
-        && [-ENOENT, -ENOTDIR].contains(&d.ours)
+        && [-ENOENT, -ENOTDIR, -ENAMETOOLONG, -EEXIST].contains(&d.ours)
+}
+
+/// Whether a name that the call gives is "." or "..".
+fn is_dots(call: &Call) -> bool {
+    given_name(call).is_some_and(|name| [&b"."[..], b".."].contains(&name))
+}
+
+/// The name that a call gives an entry.
+fn given_name(call: &Call) -> Option<&[u8]> {
+    match call {
+        Call::Create { name, .. } | Call::Link { name, .. } | Call::Rename { name, .. } => {
+            Some(name)
+        }
+        _ => None,
+    }
+}
+
+fn name_of_dots(d: &Answers) -> bool {
+    let there = if matches!(d.call, Call::Rename { .. }) {
+        -EBUSY
+    } else {
+        -EEXIST
+    };
+    is_dots(d.call) && d.ours == -EINVAL && d.linux == there
+}
+
+/// A name that Linux can give, and what comes after its length in the order; a path with such a component, which no entry bears.
+fn length_of_a_name(d: &Answers) -> bool {
+    let between = |name: &[u8]| (LONGEST_NAME + 1..=NAME_MAX).contains(&name.len());
+    let after = match d.call {
+        Call::Lookup { path } => {
+            let mut parts = path.split(|byte| *byte == b'/');
+            parts.any(between) && d.linux == -ENOENT
+        }
+        call => {
+            let later = [0, -EINVAL, -EPERM, -EACCES, -EXDEV];
+            given_name(call).is_some_and(between) && later.contains(&d.linux)
+        }
+    };
+    d.ours == -ENAMETOOLONG && after
+}
+
+fn path_from_elsewhere(d: &Answers) -> bool {
+    matches!(d.call, Call::Lookup { path } if !path.is_empty() && !path.starts_with(b"/"))
+        && d.ours == -EINVAL
+}
+
+fn symlink_on_the_way(d: &Answers) -> bool {
+    matches!(d.call, Call::Lookup { .. }) && d.ours == -ENOTDIR && d.linux == -ELOOP
 }
 
 fn version_flags(d: &Answers) -> bool {
@@ -396,7 +474,8 @@ mod tests {
     /// The tree and the threads, on our side and on the model's.
     fn sides() -> (Broker, Model) {
         let (mut tables, mut model) = (Broker::new(TOP_LEVEL), Model::fresh(TOP_LEVEL));
-        let create = |directory, kind| Call::Create {
+        let create = |directory, kind, name: &str| Call::Create {
+            name: name.as_bytes().to_vec(),
             thread: FREE,
             directory,
             kind,
@@ -409,11 +488,11 @@ mod tests {
         };
         let [all, net, _] = known(TOP_LEVEL);
         let calls = [
-            create(0, DIRECTORY),
-            create(UPPER, SYMLINK),
-            create(UPPER, FIFO),
-            create(UPPER, DIRECTORY),
-            create(LOWER, REGULAR),
+            create(0, DIRECTORY, "upper"),
+            create(UPPER, SYMLINK, "link"),
+            create(UPPER, FIFO, "pipe"),
+            create(UPPER, DIRECTORY, "lower"),
+            create(LOWER, REGULAR, "file"),
             create_ruleset(&[all]),
             create_ruleset(&[all]),
             create_ruleset(&[0, net]),
@@ -484,11 +563,10 @@ mod tests {
     /// The file over the directory that it stands below.
     fn rename(thread: u64) -> Call {
         Call::Rename {
+            name: b"upper".to_vec(),
             thread,
             source: FILE,
             directory: 0,
-            replaces: 1,
-            entry: UPPER,
             report: NO_REPORT,
         }
     }
@@ -575,6 +653,77 @@ mod tests {
         }
     }
 
+    /// A regular file in the upper directory.
+    fn create(thread: u64, name: &[u8]) -> Call {
+        Call::Create {
+            name: name.to_vec(),
+            thread,
+            directory: UPPER,
+            kind: REGULAR,
+            report: NO_REPORT,
+        }
+    }
+
+    #[test]
+    fn names_are_of_their_classes() {
+        let long = class("length-of-a-name");
+        for (length, linux) in [(49, 0), (255, 0), (255, -EACCES), (49, -EXDEV)] {
+            let answers = compared(&create(FREE, &vec![b'n'; length]), -ENAMETOOLONG, linux);
+            assert_eq!(answers, long, "{length} {linux}");
+        }
+        let dots = class("name-of-dots");
+        assert_eq!(compared(&create(FREE, b"."), -EINVAL, -EEXIST), dots);
+        let both = compared(&create(CONFINED, b"link"), -EEXIST, -EEXIST);
+        assert_eq!(both, Comparison::Agree);
+        let wrong = [
+            (create(FREE, &[b'n'; 48]), -ENAMETOOLONG, 0),
+            (create(FREE, &[b'n'; 49]), 6, 0),
+            (create(FREE, &[b'n'; 256]), -ENAMETOOLONG, 0),
+            (create(FREE, &[b'n'; 49]), -ENAMETOOLONG, -EEXIST),
+            (create(FREE, b".."), -EINVAL, -EBUSY),
+            (create(FREE, b"..."), -EINVAL, -EEXIST),
+            (create(FREE, b"link"), -EEXIST, 0),
+            (create(CONFINED, b"link"), -EEXIST, -EACCES),
+            (create(CONFINED, b"link"), -EACCES, -EACCES),
+        ];
+        for (call, ours, linux) in wrong {
+            let answers = compared(&call, ours, linux);
+            assert_eq!(answers, Comparison::Unknown, "{call:?} {ours} {linux}");
+        }
+    }
+
+    #[test]
+    fn paths_are_of_their_classes() {
+        let lookup = |path: &[u8]| Call::Lookup {
+            path: path.to_vec(),
+        };
+        let long = [b"/upper/", &[b'n'; 49][..]].concat();
+        let answers = compared(&lookup(&long), -ENAMETOOLONG, -ENOENT);
+        assert_eq!(answers, class("length-of-a-name"));
+        for linux in [0, -ENOENT, -ELOOP] {
+            let answers = compared(&lookup(b"upper"), -EINVAL, linux);
+            assert_eq!(answers, class("path-from-elsewhere"));
+        }
+        for path in [&b"/upper/link/"[..], b"/upper/link/..", b"/upper/link/file"] {
+            let answers = compared(&lookup(path), -ENOTDIR, -ELOOP);
+            assert_eq!(answers, class("symlink-on-the-way"));
+        }
+        let wrong = [
+            (lookup(b"/upper/link"), LINK as i64, -ELOOP),
+            (lookup(b"/upper/pipe/"), -ENOTDIR, 0),
+            (lookup(b"/upper/link/"), LINK as i64, 0),
+            (lookup(b"/upper/none"), -ENOENT, 0),
+            (lookup(b"/upper/.."), -ENOENT, -ENOENT),
+            (lookup(b"/.."), -ENOENT, 0),
+            (lookup(&long), -ENOENT, -ENOENT),
+            (lookup(&long), -ENAMETOOLONG, 0),
+        ];
+        for (call, ours, linux) in wrong {
+            let answers = compared(&call, ours, linux);
+            assert_eq!(answers, Comparison::Unknown, "{call:?} {ours} {linux}");
+        }
+    }
+
     #[test]
     fn a_17th_layer_is_of_the_class() {
         let restrict = |ruleset| Call::Restrict {
@@ -638,11 +787,10 @@ mod tests {
     /// The file to a directory.
     fn moved(thread: u64, directory: u64) -> Call {
         Call::Rename {
+            name: b"new".to_vec(),
             thread,
             source: FILE,
             directory,
-            replaces: 0,
-            entry: 0,
             report: NO_REPORT,
         }
     }

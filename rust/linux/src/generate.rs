@@ -5,7 +5,9 @@ use crate::call::NO_REPORT;
 use crate::machine::Machine;
 use crate::rights::*;
 use model::call::Call;
-use model::state::{MAX_ENTRIES, MAX_RULESETS, MAX_THREADS};
+use model::names::LONGEST_NAME;
+use model::paths::path;
+use model::state::{Model, MAX_ENTRIES, MAX_RULESETS, MAX_THREADS};
 use random::Random;
 
 /// Ports above the ephemeral ones, and port 0.
@@ -23,12 +25,14 @@ const LOG_FLAGS: [u64; 4] = [1, 2, 4, 7];
 pub struct Generator<'a> {
     pub random: &'a mut Random,
     pub tables: &'a Broker,
+    /// The same as the tables.
+    pub model: &'a Model,
     pub machine: &'a Machine,
 }
 
 type Choice = fn(&mut Generator) -> Call;
 
-const CHOICES: [(u64, Choice); 16] = [
+const CHOICES: [(u64, Choice); 17] = [
     (24, |g| g.access()),
     (6, |g| g.port()),
     (1, |g| g.reach()),
@@ -37,6 +41,7 @@ const CHOICES: [(u64, Choice); 16] = [
     (12, |g| g.link()),
     (24, |g| g.rename()),
     (12, |g| g.exchange()),
+    (8, |g| g.lookup()),
     (3, |g| g.create_ruleset()),
     (2, |g| g.close_ruleset()),
     (6, |g| g.add_path_rule()),
@@ -57,6 +62,7 @@ impl Generator<'_> {
                 self.access()
             }
             Call::Exchange { .. } if !self.machine.exchange => self.rename(),
+            Call::Lookup { .. } if !self.machine.lookups => self.rename(),
             // Without a thread the process has ended.
             Call::End { thread } if self.tables.live_threads() == [thread] => self.access(),
             call => call,
@@ -226,12 +232,64 @@ impl Generator<'_> {
     }
 
     fn create(&mut self) -> Call {
+        let directory = self.directory();
         Call::Create {
+            name: self.name(directory),
             thread: self.thread(),
-            directory: self.directory(),
+            directory,
             kind: self.kind(),
             report: NO_REPORT,
         }
+    }
+
+    /// A name for an entry of a directory: mostly a free one, else one that is taken, or that one side or both can't give.
+    fn name(&mut self, directory: u64) -> Vec<u8> {
+        let name = match self.random.below(1000) {
+            0..10 => b".".to_vec(),
+            10..15 => b"..".to_vec(),
+            // A scenario ends where Linux gives a name that we do not.
+            15 => vec![b'l'; self.random.pick(&[49, 50, 255])],
+            16..40 => vec![b'l'; self.random.between(256, 300) as usize],
+            40..150 => self.taken_name(directory),
+            150..200 => self.letters(LONGEST_NAME as u64),
+            _ => {
+                let length = self.random.between(1, 3);
+                self.letters(length)
+            }
+        };
+        match self.tables.bearer(directory, &name) {
+            Some(_) if self.random.chance(85) => {
+                format!("{:x}", self.random.below(1 << 40)).into_bytes()
+            }
+            _ => name,
+        }
+    }
+
+    /// So many letters, digits or dots, of which the first is a letter.
+    fn letters(&mut self, length: u64) -> Vec<u8> {
+        let first = self.random.pick(b"abcdef");
+        let rest = (1..length).map(|_| self.random.pick(b"abcdef0123._- "));
+        std::iter::once(first).chain(rest).collect()
+    }
+
+    /// The name of an entry of a directory, or of any.
+    fn taken_name(&mut self, directory: u64) -> Vec<u8> {
+        let mut named = self.tables.live_entries();
+        named.retain(|&entry| entry != 0);
+        let mut children = named.clone();
+        children.retain(|&entry| self.tables.parent(entry) == directory);
+        let among = if children.is_empty() { named } else { children };
+        match self.random.pick_some(&among) {
+            Some(entry) => self.tables.name(entry).into_bytes(),
+            None => self.letters(1),
+        }
+    }
+
+    /// A path without a zero byte, which Linux can't be given.
+    fn lookup(&mut self) -> Call {
+        let mut path = path(self.model, self.random);
+        path.retain(|byte| *byte != 0);
+        Call::Lookup { path }
     }
 
     fn remove(&mut self) -> Call {
@@ -247,31 +305,36 @@ impl Generator<'_> {
         if self.tables.is_directory(source) && self.random.chance(80) {
             source = self.entry();
         }
+        let directory = self.directory();
         Call::Link {
+            name: self.name(directory),
             thread: self.thread(),
             source,
-            directory: self.directory(),
+            directory,
             report: NO_REPORT,
         }
     }
 
-    /// A replaced entry is live, since Linux knows it by its name.
+    /// To the name of an entry, the source among them, or to another one.
     fn rename(&mut self) -> Call {
         let mut directory = self.directory();
-        let (mut replaces, mut replaced) = (0, 0);
-        if self.random.chance(50) {
-            let entry = self.entry();
-            if self.tables.is_live(entry) {
-                directory = self.directory_of(entry, directory);
-                (replaces, replaced) = (1, entry);
-            }
-        }
+        let source = self.entry();
+        let replaced = match self.random.below(100) {
+            0..5 => source,
+            5..55 => self.entry(),
+            _ => 0,
+        };
+        let name = if replaced != 0 && self.tables.is_live(replaced) {
+            directory = self.directory_of(replaced, directory);
+            self.tables.name(replaced).into_bytes()
+        } else {
+            self.name(directory)
+        };
         Call::Rename {
+            name,
             thread: self.thread(),
-            source: self.entry(),
+            source,
             directory,
-            replaces,
-            entry: replaced,
             report: NO_REPORT,
         }
     }

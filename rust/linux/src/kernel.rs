@@ -7,9 +7,9 @@ use crate::sys;
 use crate::target::Target;
 use crate::task::Task;
 use model::call::Call;
-use model::state::{MAX_ENTRIES, MAX_RULESETS};
+use model::state::MAX_RULESETS;
 use std::collections::BTreeMap;
-use std::ffi::c_int;
+use std::ffi::{c_int, CString};
 
 /// What stands for an entry or a ruleset that is not there.
 const ABSENT: &str = "absent";
@@ -23,9 +23,6 @@ pub struct Kernel {
     root: String,
     /// Where symlinks lead: a regular file outside the tree.
     symlink_target: String,
-    /// The name of each live entry in its directory.
-    names: Vec<String>,
-    names_given: u64,
     /// The descriptor of each open ruleset.
     rulesets: [Option<c_int>; MAX_RULESETS as usize],
     /// The Linux thread of each live thread.
@@ -42,8 +39,6 @@ impl Kernel {
         Kernel {
             root: root.to_string(),
             symlink_target: symlink_target.to_string(),
-            names: vec![String::new(); MAX_ENTRIES as usize],
-            names_given: 0,
             rulesets: [None; MAX_RULESETS as usize],
             tasks: BTreeMap::from([(0, Task::start())]),
             started: None,
@@ -100,7 +95,7 @@ impl Kernel {
         0
     }
 
-    fn operation(&mut self, tables: &Broker, call: &Call) -> Operation {
+    fn operation(&self, tables: &Broker, call: &Call) -> Operation {
         match *call {
             Call::Restrict { ruleset, flags, .. } => Operation::RestrictSelf {
                 ruleset: self.descriptor(ruleset),
@@ -113,6 +108,10 @@ impl Kernel {
             Call::Port { port, rights, .. } => Operation::Tcp {
                 port: port as u16,
                 rights,
+            },
+            Call::Lookup { ref path } => Operation::Lookup {
+                root: self.root.clone(),
+                path: CString::new(path.as_slice()).expect("paths have no zero byte"),
             },
             _ if thread_of(call).is_none() => self.ruleset_operation(tables, call),
             _ => self.file_operation(tables, call),
@@ -155,15 +154,21 @@ impl Kernel {
         }
     }
 
-    fn file_operation(&mut self, tables: &Broker, call: &Call) -> Operation {
+    fn file_operation(&self, tables: &Broker, call: &Call) -> Operation {
         match *call {
             Call::Access { entry, rights, .. } => {
                 Operation::accessing(rights, self.path(tables, entry))
                     .unwrap_or_else(|| panic!("no operation asks for the rights {rights:#x} alone"))
             }
             Call::Create {
-                directory, kind, ..
-            } => Operation::creating(kind, self.new_path(tables, directory), &self.symlink_target),
+                ref name,
+                directory,
+                kind,
+                ..
+            } => {
+                let path = self.path_of_name(tables, directory, name);
+                Operation::creating(kind, path, &self.symlink_target)
+            }
             Call::Remove { entry: 0, .. } => Operation::Rmdir {
                 path: "/".to_string(),
             },
@@ -174,29 +179,26 @@ impl Kernel {
                 path: self.path(tables, entry),
             },
             Call::Link {
-                source, directory, ..
+                ref name,
+                source,
+                directory,
+                ..
             } => Operation::Link {
                 from: self.path(tables, source),
-                to: self.new_path(tables, directory),
+                to: self.path_of_name(tables, directory, name),
             },
             _ => self.rename_operation(tables, call),
         }
     }
 
-    fn rename_operation(&mut self, tables: &Broker, call: &Call) -> Operation {
+    fn rename_operation(&self, tables: &Broker, call: &Call) -> Operation {
         let (source, to, flags) = match *call {
             Call::Rename {
+                ref name,
                 source,
                 directory,
-                replaces: 0,
                 ..
-            } => (source, self.new_path(tables, directory), 0),
-            Call::Rename {
-                source,
-                directory,
-                entry,
-                ..
-            } => (source, self.path_within(tables, directory, entry), 0),
+            } => (source, self.path_of_name(tables, directory, name), 0),
             Call::Exchange {
                 source,
                 directory,
@@ -224,11 +226,8 @@ impl Kernel {
         if entry == 0 {
             self.root.clone()
         } else if tables.is_live(entry) {
-            format!(
-                "{}/{}",
-                self.path(tables, tables.parent(entry)),
-                self.names[entry as usize]
-            )
+            let directory = self.path(tables, tables.parent(entry));
+            format!("{directory}/{}", tables.name(entry))
         } else {
             format!("{}/{ABSENT}", self.root)
         }
@@ -249,47 +248,27 @@ impl Kernel {
             return self.movable_path(tables, entry);
         }
         let name = if tables.is_live(entry) {
-            &self.names[entry as usize]
+            tables.name(entry)
         } else {
-            ABSENT
+            ABSENT.to_string()
         };
+        self.path_of_name(tables, directory, name.as_bytes())
+    }
+
+    /// The path of a name in a directory.
+    fn path_of_name(&self, tables: &Broker, directory: u64, name: &[u8]) -> String {
+        let name = str::from_utf8(name).expect("names are ASCII");
         format!("{}/{name}", self.path(tables, directory))
     }
 
-    /// A path in a directory with a name that was never used before.
-    fn new_path(&mut self, tables: &Broker, directory: u64) -> String {
-        self.names_given += 1;
-        format!("{}/{}", self.path(tables, directory), self.newest_name())
-    }
-
-    fn newest_name(&self) -> String {
-        format!("n{}", self.names_given)
-    }
-
-    /// Takes note of a call that both sides have granted. The tables are those before the call.
-    pub fn settle(&mut self, tables: &Broker, call: &Call, number: i64, linux: i64) {
+    /// Takes note of a call that both sides have granted.
+    pub fn settle(&mut self, call: &Call, number: i64, linux: i64) {
         match *call {
             Call::CreateRuleset { .. } => self.rulesets[number as usize] = Some(linux as c_int),
             Call::CloseRuleset { ruleset } => self.rulesets[ruleset as usize] = None,
             Call::Clone { .. } => {
                 let started = self.started.take();
                 self.tasks.extend(started.map(|task| (number as u64, task)));
-            }
-            Call::Create { .. } | Call::Link { .. } => {
-                self.names[number as usize] = self.newest_name()
-            }
-            Call::Rename {
-                source,
-                replaces: 0,
-                ..
-            } => self.names[source as usize] = self.newest_name(),
-            Call::Rename { source, entry, .. } if tables.object(source) != tables.object(entry) => {
-                self.names[source as usize] = self.names[entry as usize].clone();
-            }
-            Call::Exchange { source, entry, .. }
-                if tables.object(source) != tables.object(entry) =>
-            {
-                self.names.swap(source as usize, entry as usize);
             }
             _ => {}
         }
@@ -304,7 +283,7 @@ impl Drop for Kernel {
     }
 }
 
-/// The thread that makes the call; none for those on rulesets, which concern no domain.
+/// The thread that makes the call; none for those on rulesets and for lookups, which concern no domain.
 fn thread_of(call: &Call) -> Option<u64> {
     match *call {
         Call::Restrict { thread, .. }

@@ -49,6 +49,7 @@ fn open_ruleset(scenario: &mut Scenario) -> Result<(), Stop> {
 fn add_rules(scenario: &mut Scenario, number: usize) -> Result<(), Stop> {
     for entry in 1..=number as u64 {
         scenario.ask(Call::Create {
+            name: entry.to_string().into_bytes(),
             thread: 0,
             directory: 0,
             kind: DIRECTORY,

@@ -18,6 +18,8 @@ pub struct Machine {
     pub tcp: bool,
     /// Scopes, and what they keep a thread from.
     pub scopes: bool,
+    /// openat2(2) finds paths below a directory.
+    pub lookups: bool,
     /// A regular file, where symlinks lead.
     pub plain_file: String,
 }
@@ -47,6 +49,12 @@ impl Machine {
                 .run()
                     == 0,
             scopes: abi >= 6 && target::can_be_reached(),
+            lookups: Operation::Lookup {
+                root: directory.to_string(),
+                path: c"/../plain".to_owned(),
+            }
+            .run()
+                >= 0,
             plain_file,
         }
     }
@@ -97,6 +105,10 @@ impl Machine {
                 "signals and abstract sockets: the kernel has no scopes, or pidfds or abstract sockets are not permitted",
             ),
             (
+                self.lookups,
+                "lookup: openat2(2) is not permitted",
+            ),
+            (
                 self.admin,
                 "the admin mark: this program has no CAP_SYS_ADMIN",
             ),
@@ -114,7 +126,7 @@ impl Machine {
 }
 
 /// What no machine compares, with the reason.
-pub const LEFT_OUT: [&str; 11] = [
+pub const LEFT_OUT: [&str; 13] = [
     "EOPNOTSUPP (level 0): Landlock cannot be switched off in a running kernel",
     "EINVAL and E2BIG for what only a higher level knows: a kernel has one level",
     "EIO: the kernel's own state cannot be damaged from outside",
@@ -122,6 +134,8 @@ pub const LEFT_OUT: [&str; 11] = [
     "EBUSY for the only live thread: in Linux it exits, and the process with it",
     "ENOSPC: a file system has no such table of entries, nor object numbers",
     "E2BIG for a 65th layer of a domain and ENOMEM for a 257th layer: the kernel stops at 16 layers to a domain, 128 for all threads",
+    "component: the kernel shows no part of a path",
+    "names that are empty, or that have a slash or a zero byte, and paths with a zero byte: no system call can be given them",
     "layer_rules: the kernel does not show a domain's rules",
     "sockets that were made before a layer: a socket keeps the domain of its making, and the tables know threads alone",
     "opening block devices: an open may load a driver",
@@ -152,6 +166,7 @@ mod tests {
             exchange: true,
             tcp: true,
             scopes: true,
+            lookups: true,
             plain_file: String::new(),
         }
     }
@@ -159,7 +174,7 @@ mod tests {
     #[test]
     fn each_thing_that_is_lacking_is_said() {
         assert!(whole().lacks().is_empty());
-        let lack: [fn(&mut Machine); 9] = [
+        let lack: [fn(&mut Machine); 10] = [
             |machine| machine.abi = 5,
             |machine| machine.admin = false,
             |machine| machine.no_new_privs = true,
@@ -169,6 +184,7 @@ mod tests {
             |machine| machine.exchange = false,
             |machine| machine.tcp = false,
             |machine| machine.scopes = false,
+            |machine| machine.lookups = false,
         ];
         for take_away in lack {
             let mut machine = whole();

@@ -33,7 +33,7 @@ use tally::Tally;
 
 const USAGE: &str = "usage: linux [--seed N] [--seconds N] [--scenarios N]";
 const DEFAULT_SEED: u64 = 1;
-const DEFAULT_SCENARIOS: u64 = 8000;
+const DEFAULT_SCENARIOS: u64 = 7500;
 /// Domains that the first scenario builds and drops.
 const CHAINS: usize = 3000;
 /// A scenario that takes longer hangs.

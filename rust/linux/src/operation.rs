@@ -2,7 +2,7 @@
 
 use crate::rights::*;
 use crate::sys::{self, landlock};
-use std::ffi::{c_int, c_uint};
+use std::ffi::{c_int, c_uint, CStr, CString};
 
 const S_IFREG: u32 = 0o100000;
 const S_IFCHR: u32 = 0o020000;
@@ -56,6 +56,11 @@ pub enum Operation {
         from: String,
         to: String,
         flags: c_uint,
+    },
+    /// From a directory as the root.
+    Lookup {
+        root: String,
+        path: CString,
     },
     Tcp {
         port: u16,
@@ -216,8 +221,17 @@ impl Operation {
             Operation::Rmdir { path } => sys::rmdir(path),
             Operation::Link { from, to } => sys::link(from, to),
             Operation::Rename { from, to, flags } => sys::rename(from, to, *flags),
+            Operation::Lookup { root, path } => look_up(root, path),
             _ => unreachable!("{self:?} is no operation on files"),
         }
+    }
+}
+
+/// The inode number of what a path leads to.
+fn look_up(root: &str, path: &CStr) -> i64 {
+    match sys::open_below(root, path) {
+        fd if fd >= 0 => sys::inode_and_close(fd as c_int),
+        error => error,
     }
 }
 

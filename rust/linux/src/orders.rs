@@ -13,12 +13,14 @@ const UNKNOWN_BIT: u64 = 1 << 63;
 pub fn play(scenario: &mut Scenario) -> Result<(), Stop> {
     create(scenario)?;
     scenario.ask(Call::Create {
+        name: b"directory".to_vec(),
         thread: 0,
         directory: 0,
         kind: DIRECTORY,
         report: NO_REPORT,
     })?;
     scenario.ask(Call::Create {
+        name: b"file".to_vec(),
         thread: 0,
         directory: 0,
         kind: REGULAR,

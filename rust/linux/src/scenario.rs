@@ -99,6 +99,7 @@ impl<'a> Scenario<'a> {
     /// A tree, rulesets with rules, and a thread with a domain of one to four layers.
     fn set_up(&mut self) -> Result<(), Stop> {
         self.ask(Call::Create {
+            name: b"top".to_vec(),
             thread: 0,
             directory: 0,
             kind: DIRECTORY,
@@ -134,6 +135,7 @@ impl<'a> Scenario<'a> {
         let call = choose(&mut Generator {
             random: &mut self.random,
             tables: &self.tables,
+            model: &self.model,
             machine: self.machine,
         });
         self.ask(call)
@@ -162,11 +164,17 @@ impl<'a> Scenario<'a> {
             by_domain,
             linux,
         };
+        if matches!(call, Call::Lookup { .. }) && ours >= 0 && linux >= 0 {
+            let found = fs::symlink_metadata(self.kernel.path(&before, ours as u64));
+            if found.map(|found| found.ino()).ok() != Some(linux as u64) {
+                return Err(self.unknown("the last path leads elsewhere in Linux"));
+            }
+        }
         match compare(&answers) {
             Comparison::Agree => {
                 self.tally.agree(&call, outcome(ours));
                 if ours >= 0 {
-                    self.kernel.settle(&before, &call, ours, linux);
+                    self.kernel.settle(&call, ours, linux);
                 }
                 Ok(())
             }

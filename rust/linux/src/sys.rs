@@ -3,8 +3,12 @@
 //! What is unsafe here: every pointer that is passed points to a value that lives until the call returns and is of the length that
 //! the call reads or writes.
 
-use std::ffi::{c_char, c_int, c_long, c_uint, c_ulong, c_void, CString};
+use crate::rights::EAGAIN;
+use std::ffi::{c_char, c_int, c_long, c_uint, c_ulong, c_void, CStr, CString};
+use std::fs::File;
 use std::io;
+use std::os::fd::FromRawFd;
+use std::os::unix::fs::MetadataExt;
 
 pub const O_RDONLY: c_int = 0;
 pub const O_WRONLY: c_int = 1;
@@ -155,6 +159,56 @@ pub fn open_path(path: &str, flags: c_int) -> i64 {
             flags | O_NOFOLLOW | O_NONBLOCK | O_CLOEXEC,
         )
     })
+}
+
+/// What openat2(2) is told.
+#[repr(C)]
+struct OpenHow {
+    flags: u64,
+    mode: u64,
+    resolve: u64,
+}
+
+/// Opens what a path leads to, with a directory as the root that ".." and a leading slash lead to. A last symlink is opened itself;
+/// one that would have to be followed is ELOOP.
+pub fn open_below(root: &str, path: &CStr) -> i64 {
+    const OPENAT2: c_long = 437;
+    const NO_SYMLINKS: u64 = 0x04;
+    const IN_ROOT: u64 = 0x10;
+    let how = OpenHow {
+        flags: (O_PATH | O_NOFOLLOW | O_CLOEXEC) as u64,
+        mode: 0,
+        resolve: NO_SYMLINKS | IN_ROOT,
+    };
+    let root = open_path(root, O_PATH);
+    if root < 0 {
+        return root;
+    }
+    let open = || {
+        long_answer(unsafe {
+            syscall(
+                OPENAT2,
+                root as c_int,
+                path.as_ptr(),
+                &how,
+                size_of_val(&how),
+            )
+        })
+    };
+    // EAGAIN says that something was renamed meanwhile, anywhere in the system.
+    let mut answer = open();
+    while answer == -EAGAIN {
+        answer = open();
+    }
+    close(root as c_int);
+    answer
+}
+
+/// The inode number of what a descriptor from here stands for; closes it.
+pub fn inode_and_close(fd: c_int) -> i64 {
+    let file = unsafe { File::from_raw_fd(fd) };
+    let metadata = file.metadata().expect("an open descriptor has metadata");
+    metadata.ino() as i64
 }
 
 pub fn close(fd: c_int) -> i64 {

@@ -1,46 +1,70 @@
 //! Calls as values, and whatever answers them.
 
+use crate::names::component;
 use crate::refusal::{returned, Answer};
 use crate::state::Model;
 use crate::tables::Tables;
 
+/// The byte argument of a call, if it has one.
+macro_rules! byte_argument {
+    () => {
+        None
+    };
+    ($bytes:ident) => {
+        Some($bytes)
+    };
+}
+
 macro_rules! calls {
     (
         |$model:ident|
-        $($(#[$doc:meta])* $variant:ident $name:literal { $($field:ident),* } => $answer:expr;)*
+        $(
+            $(#[$doc:meta])*
+            $variant:ident $call:literal $([$bytes:ident])? { $($field:ident),* } => $answer:expr;
+        )*
     ) => {
         /// A call with its arguments.
         #[derive(Clone, PartialEq, Eq, Debug)]
         pub enum Call {
-            /// Opens a ruleset from attribute bytes.
-            CreateRuleset { bytes: Vec<u8>, flags: u64 },
-            $($(#[$doc])* $variant { $($field: u64),* },)*
+            $($(#[$doc])* $variant { $($bytes: Vec<u8>,)? $($field: u64),* },)*
         }
 
         impl Call {
             /// The names of all calls.
-            pub const NAMES: &'static [&'static str] = &["create_ruleset", $($name),*];
+            pub const NAMES: &'static [&'static str] = &[$($call),*];
 
             pub fn name(&self) -> &'static str {
                 match self {
-                    Call::CreateRuleset { .. } => "create_ruleset",
-                    $(Call::$variant { .. } => $name,)*
+                    $(Call::$variant { .. } => $call,)*
                 }
             }
 
             /// The number arguments in order.
             pub fn numbers(&self) -> Vec<u64> {
                 match self {
-                    Call::CreateRuleset { flags, .. } => vec![*flags],
-                    $(Call::$variant { $($field),* } => vec![$(*$field),*],)*
+                    $(Call::$variant { $($field,)* .. } => vec![$(*$field),*],)*
                 }
             }
 
             /// The number arguments in order, to be changed.
             pub fn numbers_mut(&mut self) -> Vec<&mut u64> {
                 match self {
-                    Call::CreateRuleset { flags, .. } => vec![flags],
-                    $(Call::$variant { $($field),* } => vec![$($field),*],)*
+                    $(Call::$variant { $($field,)* .. } => vec![$($field),*],)*
+                }
+            }
+
+            /// The attribute, name or path, if the call takes one.
+            pub fn bytes(&self) -> Option<&[u8]> {
+                let bytes: Option<&Vec<u8>> = match self {
+                    $(Call::$variant { $($bytes,)? .. } => byte_argument!($($bytes)?),)*
+                };
+                bytes.map(Vec::as_slice)
+            }
+
+            /// The attribute, name or path, to be changed.
+            pub fn bytes_mut(&mut self) -> Option<&mut Vec<u8>> {
+                match self {
+                    $(Call::$variant { $($bytes,)? .. } => byte_argument!($($bytes)?),)*
                 }
             }
         }
@@ -51,8 +75,7 @@ macro_rules! calls {
             fn answer_number(&mut self, call: &Call) -> Answer {
                 let $model = self;
                 match *call {
-                    Call::CreateRuleset { ref bytes, flags } => $model.create_ruleset(bytes, flags),
-                    $(Call::$variant { $($field),* } => $answer,)*
+                    $(Call::$variant { $(ref $bytes,)? $($field),* } => $answer,)*
                 }
             }
         }
@@ -63,6 +86,8 @@ calls! {
     |model|
     /// Makes fresh tables.
     Fresh "fresh" { level } => model.make_fresh(level);
+    /// Opens a ruleset from attribute bytes.
+    CreateRuleset "create_ruleset" [bytes] { flags } => model.create_ruleset(bytes, flags);
     CloseRuleset "close_ruleset" { ruleset } => model.close_ruleset(ruleset);
     AddPathRule "add_path_rule" { ruleset, entry, rights, flags }
         => model.add_path_rule(ruleset, entry, rights, flags);
@@ -80,14 +105,19 @@ calls! {
     Port "port" { thread, port, rights, report } => model.port(thread, port, rights);
     Signal "signal" { thread, target } => model.signal(thread, target);
     AbstractSocket "abstract_socket" { thread, target } => model.abstract_socket(thread, target);
-    Create "create" { thread, directory, kind, report } => model.create(thread, directory, kind);
+    Create "create" [name] { thread, directory, kind, report }
+        => model.create(thread, directory, kind, name);
     Remove "remove" { thread, entry, report } => model.remove(thread, entry);
-    Link "link" { thread, source, directory, report } => model.link(thread, source, directory);
-    /// Renames in place of `entry`, or of nothing where `replaces` is 0.
-    Rename "rename" { thread, source, directory, replaces, entry, report }
-        => model.rename(thread, source, directory, (replaces != 0).then_some(entry));
+    Link "link" [name] { thread, source, directory, report }
+        => model.link(thread, source, directory, name);
+    Rename "rename" [name] { thread, source, directory, report }
+        => model.rename(thread, source, directory, name);
     Exchange "exchange" { thread, source, directory, entry, report }
         => model.exchange(thread, source, directory, entry);
+    Lookup "lookup" [path] { } => model.lookup(path);
+    /// Reports where the first component of a path stands that starts at a place or behind it; it has
+    /// no tables.
+    Component "component" [path] { place, report } => Ok(0);
 }
 
 /// What the cells of a report hold before a call.
@@ -104,7 +134,8 @@ impl Call {
             | Call::Remove { report, .. }
             | Call::Link { report, .. }
             | Call::Rename { report, .. }
-            | Call::Exchange { report, .. } => Some(report),
+            | Call::Exchange { report, .. }
+            | Call::Component { report, .. } => Some(report),
             _ => None,
         }
     }
@@ -115,6 +146,16 @@ impl Call {
             Call::Access { .. } => 3,
             _ => 2,
         }
+    }
+
+    /// What the call answers whatever tables there are, with every cell of its report, if it has no
+    /// tables.
+    pub fn without_tables(&self) -> Option<(Answer, Vec<u64>)> {
+        let Call::Component { path, place, .. } = self else {
+            return None;
+        };
+        let (start, length) = component(path, *place);
+        Some((Ok(0), self.report_of([start, length, 0])))
     }
 
     /// The call with a report of so many cells, if it reports something.
@@ -169,8 +210,10 @@ pub trait Broker {
 impl Model {
     /// Answers a call, with every cell of its report.
     pub fn answer(&mut self, call: &Call) -> (Answer, Vec<u64>) {
-        let answer = self.answer_number(call);
-        (answer, call.report_of(self.reported(call, answer)))
+        call.without_tables().unwrap_or_else(|| {
+            let answer = self.answer_number(call);
+            (answer, call.report_of(self.reported(call, answer)))
+        })
     }
 
     /// What a call that was answered so reports: where a layer's rules stand, as their first cell in the

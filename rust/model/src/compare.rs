@@ -85,7 +85,7 @@ impl<B: Broker> Pair<'_, B> {
                 self.reference.damage(pokes);
             }
             Step::Resize { table, length } => {
-                self.tables.of_mut(*table).resize(*length, 0);
+                self.tables.resize(*table, *length);
                 self.reference.resize(*table, *length);
             }
         }
@@ -111,12 +111,12 @@ impl<B: Broker> Pair<'_, B> {
 
 fn cell_differences(broker: &Tables, model: &Tables) -> Vec<CellDifference> {
     let tables = Table::ALL.into_iter().flat_map(|table| {
-        let cells = broker.of(table).iter().zip(model.of(table)).enumerate();
-        cells.map(move |(cell, (broker, model))| CellDifference {
+        let length = broker.length(table).min(model.length(table));
+        (0..length).map(move |cell| CellDifference {
             table,
             cell,
-            broker: *broker,
-            model: *model,
+            broker: broker.cell(table, cell),
+            model: model.cell(table, cell),
         })
     });
     tables.filter(|cell| cell.broker != cell.model).collect()
@@ -267,11 +267,14 @@ impl<B: Broker> Session<'_, B> {
         };
         let (source, entry) = match *step {
             Step::Call(Call::Rename {
+                ref name,
                 source,
-                replaces,
-                entry,
+                directory,
                 ..
-            }) if replaces != 0 => (source, entry),
+            }) => match model.names.bearer(directory, name) {
+                Some(bearer) => (source, bearer),
+                None => return false,
+            },
             Step::Call(Call::Exchange { source, entry, .. }) => (source, entry),
             _ => return false,
         };

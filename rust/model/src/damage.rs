@@ -1,6 +1,6 @@
 //! Random damage to the cells of sound tables.
 
-use crate::state::{Model, MAX_LAYERS, MAX_RULES, POOL_PLACES};
+use crate::state::{Model, MAX_ENTRIES, MAX_LAYERS, MAX_RULES, POOL_PLACES, ROOT};
 use crate::tables::{Table, Tables, HOLDERS, RULESET_HEAD, RULE_WIDTH};
 use random::Random;
 
@@ -14,7 +14,7 @@ pub struct Poke {
 
 /// Changes of a few cells, mostly of cells in use.
 pub fn pokes(model: &Model, tables: &Tables, random: &mut Random) -> Vec<Poke> {
-    let mut pokes = match random.below(18) {
+    let mut pokes = match random.below(24) {
         0 => swap_rows(tables, random),
         1 => copy_row(model, tables, random),
         2 | 3 => vec![copy_key(model, tables, random)],
@@ -23,6 +23,7 @@ pub fn pokes(model: &Model, tables: &Tables, random: &mut Random) -> Vec<Poke> {
         7..=9 => moved_hold(model, tables, random),
         10 => unheld_layer(model, tables, random),
         11 => gap(model, tables, random),
+        12..=16 => damaged_name(model, tables, random),
         _ => vec![cell_in_use(model, tables, random)],
     };
     while random.chance(10) {
@@ -34,7 +35,7 @@ pub fn pokes(model: &Model, tables: &Tables, random: &mut Random) -> Vec<Poke> {
 /// The pokes that write the cells back as they are.
 pub fn undo(tables: &Tables, pokes: &[Poke]) -> Vec<Poke> {
     let there = |poke: &Poke| Poke {
-        value: tables.of(poke.table)[poke.cell],
+        value: tables.cell(poke.table, poke.cell),
         ..*poke
     };
     pokes.iter().map(there).collect()
@@ -44,7 +45,7 @@ pub fn undo(tables: &Tables, pokes: &[Poke]) -> Vec<Poke> {
 fn row_in_use(table: Table, model: &Model, random: &mut Random) -> usize {
     let numbers: Vec<u64> = match table {
         Table::System => vec![0],
-        Table::Entries => model.entries.keys().copied().collect(),
+        Table::Entries | Table::Names => model.entries.keys().copied().collect(),
         Table::Rulesets => model.rulesets.keys().copied().collect(),
         Table::Layers => model.layers.keys().map(|number| *number as u64).collect(),
         Table::Pool => (0..model.pool_used() as u64).collect(),
@@ -80,7 +81,7 @@ fn cell_in_use(model: &Model, tables: &Tables, random: &mut Random) -> Poke {
 
 /// Another value for a cell.
 fn changed(model: &Model, tables: &Tables, table: Table, cell: usize, random: &mut Random) -> u64 {
-    let there = tables.of(table)[cell];
+    let there = tables.cell(table, cell);
     match random.below(8) {
         0 => there.wrapping_add(1),
         1 => there.wrapping_sub(1),
@@ -91,7 +92,7 @@ fn changed(model: &Model, tables: &Tables, table: Table, cell: usize, random: &m
         6 => 0,
         _ => {
             let row = row_in_use(table, model, random);
-            tables.row(table, row)[cell % table.width()]
+            tables.cell(table, table.width() * row + cell % table.width())
         }
     }
 }
@@ -206,6 +207,84 @@ fn gap(model: &Model, tables: &Tables, random: &mut Random) -> Vec<Poke> {
     pokes
 }
 
+/// A name that is none, each sort of fault alone: its length, a byte behind it, one of its bytes,
+/// dots, the name of another entry of the directory; or a name where there is none.
+fn damaged_name(model: &Model, tables: &Tables, random: &mut Random) -> Vec<Poke> {
+    let named: Vec<u64> = model.names.iter().map(|(number, _)| number).collect();
+    let Some(number) = random.pick_some(&named) else {
+        return written_name(0, b"a");
+    };
+    let (row, name) = (number as usize, model.names.of(number));
+    let (first, length) = (Table::Names.width() * row, name.len() as u64);
+    let poke = |column: u64, value| Poke {
+        table: Table::Names,
+        cell: first + column as usize,
+        value,
+    };
+    match random.below(10) {
+        0 => vec![poke(0, random.pick(&[0, length - 1, length + 1, 49, 255]))],
+        1 => vec![poke(random.between(length, 48), random.pick(&[1, 47, 97]))],
+        2 => vec![poke(random.between(1, length), u64::from(b'/'))],
+        3 => vec![poke(random.between(1, length), 0)],
+        4 => written_name(row, random.pick(&[b".", &b".."[..]])),
+        5 => written_name(row, random.pick(&[b"...", &b".a"[..], b"a."])),
+        6 => written_name(ROOT as usize, random.pick(&[b"", &b"/"[..], b"a"])),
+        7 => free_name(model, tables, random),
+        _ => written_name(row, &sibling_name(model, number, random)),
+    }
+}
+
+/// Writes the whole row of a name.
+fn written_name(row: usize, name: &[u8]) -> Vec<Poke> {
+    let width = Table::Names.width();
+    let mut bytes = vec![name.len() as u8];
+    bytes.extend(name);
+    bytes.resize(width, 0);
+    let cells = bytes.into_iter().enumerate();
+    let pokes = cells.map(|(column, byte)| Poke {
+        table: Table::Names,
+        cell: width * row + column,
+        value: byte.into(),
+    });
+    pokes.collect()
+}
+
+/// A byte in the row of an entry that is free, or its whole name.
+fn free_name(model: &Model, tables: &Tables, random: &mut Random) -> Vec<Poke> {
+    let free = (0..MAX_ENTRIES).filter(|number| !model.entries.contains_key(number));
+    let free: Vec<u64> = free.collect();
+    let Some(row) = random.pick_some(&free) else {
+        return vec![any_cell(tables, random)];
+    };
+    let (table, row) = (Table::Names, row as usize);
+    if random.chance(30) {
+        return written_name(row, b"a");
+    }
+    let cell = table.width() * row + random.below(table.width() as u64) as usize;
+    vec![Poke {
+        table,
+        cell,
+        value: random.between(1, 255),
+    }]
+}
+
+/// The name of another entry of the same directory, or of another one.
+fn sibling_name(model: &Model, number: u64, random: &mut Random) -> Vec<u8> {
+    let parent = model.entries[&number].parent;
+    let others = model.names.iter().filter(|(other, _)| *other != number);
+    let others: Vec<u64> = others.map(|(other, _)| other).collect();
+    let siblings = others.iter().copied();
+    let siblings = siblings.filter(|other| model.entries[other].parent == parent);
+    let siblings: Vec<u64> = siblings.collect();
+    let among = if random.chance(80) {
+        &siblings
+    } else {
+        &others
+    };
+    let other = random.pick_some(among);
+    other.map_or(b"a".to_vec(), |other| model.names.of(other).to_vec())
+}
+
 /// A pool place with a rule of a type, if there is one.
 fn rule_in_use(sort: u64, model: &Model, tables: &Tables, random: &mut Random) -> usize {
     let places = 0..model.pool_used();
@@ -216,7 +295,7 @@ fn rule_in_use(sort: u64, model: &Model, tables: &Tables, random: &mut Random) -
 
 fn any_cell(tables: &Tables, random: &mut Random) -> Poke {
     let table = random.pick(&Table::ALL);
-    let cell = random.below(tables.of(table).len() as u64) as usize;
+    let cell = random.below(tables.length(table) as u64) as usize;
     let value = random.pick(&[1, 2, 3, random_high(cell)]);
     Poke { table, cell, value }
 }
@@ -228,11 +307,10 @@ fn random_high(cell: usize) -> u64 {
 
 /// Writes a table's row over another one.
 fn written_over(tables: &Tables, table: Table, from: usize, to: usize) -> Vec<Poke> {
-    let row = tables.row(table, from).iter().enumerate();
-    let pokes = row.map(|(column, value)| Poke {
+    let pokes = (0..table.width()).map(|column| Poke {
         table,
         cell: table.width() * to + column,
-        value: *value,
+        value: tables.cell(table, table.width() * from + column),
     });
     pokes.collect()
 }

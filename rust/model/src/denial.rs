@@ -123,14 +123,13 @@ impl Model {
                 (thread, self.between(source, directory, needs, None))
             }
             Call::Rename {
+                ref name,
                 thread,
                 source,
                 directory,
-                replaces,
-                entry,
                 ..
             } => {
-                let replaced = (replaces != 0).then(|| kind(entry));
+                let replaced = self.replaced_kind(directory, name);
                 let needs = Needs::of_rename(kind(source), replaced);
                 (thread, self.between(source, directory, needs, None))
             }

@@ -1,6 +1,8 @@
 //! Random calls, with arguments that mostly name live things.
 
 use crate::call::Call;
+use crate::names::Name;
+use crate::paths::{bad_name, new_name, path, place};
 use crate::rights::{Masks, Rights};
 use crate::rulesets::known_size;
 use crate::start::{masks, some_of};
@@ -19,7 +21,7 @@ pub enum Mix {
 pub fn call(model: &Model, mix: Mix, random: &mut Random) -> Call {
     let mut choose = Choose { model, random };
     let sort = match mix {
-        Mix::Tree if choose.random.chance(90) => choose.random.between(550, 999),
+        Mix::Tree if choose.random.chance(90) => choose.random.between(540, 999),
         _ => choose.random.below(1000),
     };
     let (_, make) = SORTS[SORTS.partition_point(|(end, _)| *end <= sort)];
@@ -36,27 +38,29 @@ pub fn every_call(model: &Model, random: &mut Random) -> Vec<Call> {
 type Make = fn(&mut Choose) -> Call;
 
 /// The calls, each with the end of its share of a thousand.
-const SORTS: [(u64, Make); 20] = [
+const SORTS: [(u64, Make); 22] = [
     (4, |choose| choose.fresh()),
-    (75, |choose| choose.create_ruleset()),
-    (100, |choose| choose.close_ruleset()),
-    (195, |choose| choose.add_path_rule()),
-    (250, |choose| choose.add_port_rule()),
-    (330, |choose| choose.restrict()),
-    (350, |choose| choose.layer_rules()),
-    (385, |choose| choose.clone_thread()),
-    (420, |choose| choose.end_thread()),
-    (430, |choose| choose.set_no_new_privs()),
-    (450, |choose| choose.set_admin()),
-    (475, |choose| choose.signal()),
-    (500, |choose| choose.abstract_socket()),
-    (570, |choose| choose.access()),
-    (615, |choose| choose.port()),
-    (695, |choose| choose.create()),
-    (745, |choose| choose.remove()),
-    (805, |choose| choose.link()),
-    (905, |choose| choose.rename()),
-    (1000, |choose| choose.exchange()),
+    (70, |choose| choose.create_ruleset()),
+    (95, |choose| choose.close_ruleset()),
+    (180, |choose| choose.add_path_rule()),
+    (230, |choose| choose.add_port_rule()),
+    (305, |choose| choose.restrict()),
+    (325, |choose| choose.layer_rules()),
+    (360, |choose| choose.clone_thread()),
+    (395, |choose| choose.end_thread()),
+    (405, |choose| choose.set_no_new_privs()),
+    (425, |choose| choose.set_admin()),
+    (450, |choose| choose.signal()),
+    (475, |choose| choose.abstract_socket()),
+    (500, |choose| choose.component()),
+    (560, |choose| choose.access()),
+    (595, |choose| choose.port()),
+    (670, |choose| choose.create()),
+    (710, |choose| choose.remove()),
+    (765, |choose| choose.link()),
+    (865, |choose| choose.rename()),
+    (950, |choose| choose.exchange()),
+    (1000, |choose| choose.lookup()),
 ];
 
 /// The choice of arguments.
@@ -290,6 +294,7 @@ impl Choose<'_> {
             _ => self.random.between(1, 7),
         };
         Call::Create {
+            name: self.name(directory),
             thread,
             directory,
             kind,
@@ -317,6 +322,7 @@ impl Choose<'_> {
         };
         let directory = self.target();
         Call::Link {
+            name: self.name(directory),
             thread,
             source,
             directory,
@@ -327,14 +333,47 @@ impl Choose<'_> {
     fn rename(&mut self) -> Call {
         let thread = self.thread();
         let (source, directory, entry) = self.moved();
-        let replaces = self.random.pick(&[0, 0, 1, 1, 1, 2, u64::MAX]);
+        let name = match self.random.below(10) {
+            0 => self.model.names.of(source).to_vec(),
+            1..=6 => self.model.names.of(entry).to_vec(),
+            _ => self.name(directory),
+        };
         Call::Rename {
+            name,
             thread,
             source,
             directory,
-            replaces,
-            entry,
             report: self.report(),
+        }
+    }
+
+    fn lookup(&mut self) -> Call {
+        let path = path(self.model, self.random);
+        Call::Lookup { path }
+    }
+
+    fn component(&mut self) -> Call {
+        let path = path(self.model, self.random);
+        Call::Component {
+            place: place(&path, self.random),
+            path,
+            report: self.report(),
+        }
+    }
+
+    /// A name for an entry of a directory: mostly a free one, else one that is there, or none.
+    fn name(&mut self, directory: u64) -> Name {
+        match self.random.below(20) {
+            0..=2 => bad_name(self.random),
+            3 | 4 => {
+                let child = self.child(directory);
+                self.model.names.of(child).to_vec()
+            }
+            5 => {
+                let entry = self.entry();
+                self.model.names.of(entry).to_vec()
+            }
+            _ => new_name(self.model, directory, self.random),
         }
     }
 

@@ -1,11 +1,11 @@
 //! An independent program that answers as document 01 and the requests of document 02 say, written
 //! from the papers alone, and the means to compare it with another broker over the same tables.
 //!
-//! The model is [`state`] with the calls in [`rulesets`], [`threads`], [`judge`], [`scopes`] and
-//! [`tree`], and what a refused verdict names in [`denial`]; [`tables`] and [`sound`] convert between
-//! it and cells. The comparison is [`compare`], fed by [`start`], [`generate`], [`damage`], [`odd`] and
-//! [`attributes`], and by [`long_run`] with very many calls on the same tables; a difference is made
-//! short by [`shrink`] and printed by [`scenario`].
+//! The model is [`state`] with the calls in [`rulesets`], [`threads`], [`judge`], [`scopes`], [`tree`]
+//! and [`names`], and what a refused verdict names in [`denial`]; [`tables`] and [`sound`] convert
+//! between it and cells. The comparison is [`compare`], fed by [`start`], [`generate`], [`paths`],
+//! [`damage`], [`odd`] and [`attributes`], and by [`long_run`] with very many calls on the same tables; a
+//! difference is made short by [`shrink`] and printed by [`scenario`].
 
 pub mod attributes;
 pub mod call;
@@ -15,7 +15,9 @@ pub mod denial;
 pub mod generate;
 pub mod judge;
 pub mod long_run;
+pub mod names;
 pub mod odd;
+pub mod paths;
 #[cfg(feature = "core")]
 pub mod proved;
 pub mod reference;

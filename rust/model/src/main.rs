@@ -19,7 +19,7 @@ Then threads of the same tables are cloned, restricted and ended very often; the
 compared after every call and the cells after every 100.
 
   --seed N     the seed of the random numbers (default 1)
-  --calls N    the calls to make in random lists (default 1000000)
+  --calls N    the calls to make in random lists (default 800000)
   --seconds N  stop the lists after so many seconds; without --calls, only then
   --long N     the calls on the same tables (default 1000000)
 
@@ -27,8 +27,9 @@ Without a difference the answers are counted by call and the exit code is 0. A d
 as a short scenario file, with exit code 1. Wrong arguments give exit code 2.
 ";
 
-/// The calls made where nothing else is said.
-const CALLS: u64 = 1_000_000;
+/// The calls made in random lists, and those on the same tables, where nothing else is said.
+const CALLS: u64 = 800_000;
+const LONG_CALLS: u64 = 1_000_000;
 
 fn main() -> ExitCode {
     let arguments: Vec<String> = std::env::args().skip(1).collect();
@@ -46,7 +47,7 @@ fn main() -> ExitCode {
 }
 
 fn options(arguments: &[String]) -> Option<(Options, u64)> {
-    let (mut seed, mut calls, mut seconds, mut long) = (1, None, None, CALLS);
+    let (mut seed, mut calls, mut seconds, mut long) = (1, None, None, LONG_CALLS);
     let (command, pairs) = arguments.split_first()?;
     if command != "compare" || pairs.len() % 2 != 0 {
         return None;
@@ -71,7 +72,8 @@ fn options(arguments: &[String]) -> Option<(Options, u64)> {
 }
 
 fn run(options: &Options, long: u64) -> ExitCode {
-    assert_eq!(skeinrabbit_sys::SIZES, Table::ALL.map(Table::length));
+    let (cells, names) = (skeinrabbit_sys::SIZES, [skeinrabbit_sys::NAMES_SIZE]);
+    assert_eq!([&cells[..], &names].concat(), Table::ALL.map(Table::length));
     let begin = Instant::now();
     let mut tally = Tally::default();
     let different = sweep(&mut Core, options.seed, &mut tally)

@@ -45,6 +45,7 @@ impl Broker for Both {
 
 fn cells(tables: &mut Tables) -> Cells<'_> {
     let [system, entries, rulesets, layers, pool, threads] = &mut tables.cells;
+    let names = &mut tables.names;
     Cells {
         system,
         entries,
@@ -52,11 +53,12 @@ fn cells(tables: &mut Tables) -> Cells<'_> {
         layers,
         pool,
         threads,
+        names,
     }
 }
 
-/// Calls the core's function for each of the calls; listed are those that may change the tables, with `report` last where they
-/// have one.
+/// Calls the core's function for each of the calls; listed are those of numbers alone that may change the tables, with `report`
+/// last where they have one.
 macro_rules! core_answer {
     (
         $tables:ident, $call:ident, $report:ident;
@@ -81,6 +83,19 @@ macro_rules! core_answer {
             Call::AbstractSocket { thread, target } => {
                 skeinrabbit_sys::abstract_socket($tables.shared(), thread, target)
             }
+            Call::Create { ref name, thread, directory, kind, .. } => {
+                skeinrabbit_sys::create($tables, thread, directory, kind, name, $report)
+            }
+            Call::Link { ref name, thread, source, directory, .. } => {
+                skeinrabbit_sys::link($tables, thread, source, directory, name, $report)
+            }
+            Call::Rename { ref name, thread, source, directory, .. } => {
+                skeinrabbit_sys::rename($tables, thread, source, directory, name, $report)
+            }
+            Call::Lookup { ref path } => skeinrabbit_sys::lookup($tables.shared(), path),
+            Call::Component { ref path, place, .. } => {
+                skeinrabbit_sys::component(path, place, $report)
+            }
             $(Call::$variant { $($field,)* .. } => {
                 skeinrabbit_sys::$function($tables, $($field,)* $($reported)?)
             })*
@@ -100,10 +115,7 @@ fn core_answer(tables: &mut Cells, call: &Call, report: &mut [u64]) -> u64 {
         End end(thread);
         SetNoNewPrivs set_no_new_privs(thread);
         SetAdmin set_admin(thread, on);
-        Create create(thread, directory, kind) report;
         Remove remove(thread, entry) report;
-        Link link(thread, source, directory) report;
-        Rename rename(thread, source, directory, replaces, entry) report;
         Exchange exchange(thread, source, directory, entry) report;
     }
 }

@@ -47,7 +47,7 @@ impl Reference {
     }
 
     pub fn resize(&mut self, table: Table, length: usize) {
-        self.tables.of_mut(table).resize(length, 0);
+        self.tables.resize(table, length);
         self.model = check(&self.tables);
     }
 
@@ -55,7 +55,9 @@ impl Reference {
     pub fn answer(&mut self, call: &Call) -> (Answer, Vec<u64>) {
         let answered = match &mut self.model {
             Ok(model) => model.answer(call),
-            Err(_) => (self.answer_unsound(call), call.report_of([0; 3])),
+            Err(_) => call
+                .without_tables()
+                .unwrap_or_else(|| (self.answer_unsound(call), call.report_of([0; 3]))),
         };
         if let Ok(model) = &self.model {
             encode_into(model, &mut self.tables);

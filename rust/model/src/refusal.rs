@@ -13,19 +13,21 @@ pub enum Errno {
     ENOMEM = 12,
     EACCES = 13,
     EBUSY = 16,
+    EEXIST = 17,
     EXDEV = 18,
     ENOTDIR = 20,
     EISDIR = 21,
     EINVAL = 22,
     EMFILE = 24,
     ENOSPC = 28,
+    ENAMETOOLONG = 36,
     ENOTEMPTY = 39,
     ENOMSG = 42,
     EOPNOTSUPP = 95,
 }
 
 impl Errno {
-    pub const ALL: [Errno; 19] = [
+    pub const ALL: [Errno; 21] = [
         Errno::EPERM,
         Errno::ENOENT,
         Errno::ESRCH,
@@ -36,12 +38,14 @@ impl Errno {
         Errno::ENOMEM,
         Errno::EACCES,
         Errno::EBUSY,
+        Errno::EEXIST,
         Errno::EXDEV,
         Errno::ENOTDIR,
         Errno::EISDIR,
         Errno::EINVAL,
         Errno::EMFILE,
         Errno::ENOSPC,
+        Errno::ENAMETOOLONG,
         Errno::ENOTEMPTY,
         Errno::ENOMSG,
         Errno::EOPNOTSUPP,
@@ -114,6 +118,14 @@ refusals! {
     AccessDenied EACCES;
     RootNamed EBUSY;
     TargetNotDirectory ENOTDIR;
+    NameTooLong ENAMETOOLONG;
+    EmptyName EINVAL;
+    /// "." or "..".
+    NameOfDots EINVAL;
+    NameWithSlash EINVAL;
+    NameWithZero EINVAL;
+    /// An entry of the directory bears the name.
+    NameTaken EEXIST;
     UnknownKind EINVAL;
     NotChildOfTarget EINVAL;
     /// The source is the target directory or above it.
@@ -130,6 +142,16 @@ refusals! {
     DirectoryNotEmpty ENOTEMPTY;
     NoFreeEntry ENOSPC;
     NoObjectNumber ENOSPC;
+    EmptyPath ENOENT;
+    PathTooLong ENAMETOOLONG;
+    RelativePath EINVAL;
+    PathWithZero EINVAL;
+    /// A component after something that isn't a directory.
+    AfterNonDirectory ENOTDIR;
+    /// A closing slash after something that isn't a directory.
+    SlashAfterNonDirectory ENOTDIR;
+    ComponentTooLong ENAMETOOLONG;
+    NoSuchName ENOENT;
 }
 
 /// The number a call succeeds with, or why it is refused.

@@ -7,8 +7,9 @@ use crate::reference::Reference;
 use crate::refusal::{Answer, Errno};
 use crate::state::Model;
 use crate::tables::{encode, Table};
-use std::fmt::Write;
 
+/// The bytes in a row that are counted in place of being written one by one.
+const MANY: usize = 8;
 /// The different cells that are printed at most.
 const CELLS: usize = 20;
 
@@ -16,6 +17,8 @@ const CELLS: usize = 20;
 pub fn scenario(case: &Case, difference: &Difference) -> String {
     let mut lines = vec![format!("fresh {}", case.start.level)];
     lines.extend(start_pokes(&case.start).iter().map(poke_line));
+    let names = case.start.names.iter();
+    lines.extend(names.map(|(number, name)| format!("poke_name {number} {}", text_word(name))));
     let mut reference = Reference::new(&case.start);
     for step in &case.steps {
         lines.extend(step_lines(step, &mut reference));
@@ -54,41 +57,37 @@ fn report_line(call: &Call) -> Option<String> {
     length.map(|length| format!("# the report of this call has {length} cells"))
 }
 
-/// The pokes that make the start of fresh tables of its level.
+/// The pokes that make the start of fresh tables of its level, but for the names.
 fn start_pokes(start: &Model) -> Vec<Poke> {
     let fresh = encode(&Model::fresh(start.level));
     let tables = encode(start);
-    let pokes = Table::ALL.into_iter().flat_map(|table| {
-        let cells = tables.of(table).iter().zip(fresh.of(table)).enumerate();
-        let other = cells.filter(|(_, (value, fresh))| value != fresh);
-        let pokes = other.map(|(cell, (value, _))| Poke {
+    let tables_of_numbers = Table::ALL.into_iter();
+    let tables_of_numbers = tables_of_numbers.filter(|table| *table != Table::Names);
+    let pokes = tables_of_numbers.flat_map(|table| {
+        let cells = (0..table.length()).map(|cell| Poke {
             table,
             cell,
-            value: *value,
+            value: tables.cell(table, cell),
         });
-        pokes.collect::<Vec<Poke>>()
+        let other = cells.filter(|poke| poke.value != fresh.cell(table, poke.cell));
+        other.collect::<Vec<Poke>>()
     });
     pokes.collect()
 }
 
 fn poke_line(poke: &Poke) -> String {
-    format!("poke {} {} {}", poke.table.name(), poke.cell, poke.value)
+    let value = match poke.table {
+        Table::Names => poke.value & 0xff,
+        _ => poke.value,
+    };
+    format!("poke {} {} {value}", poke.table.name(), poke.cell)
 }
 
 fn call_line(call: &Call, answer: Answer, report: &[u64]) -> String {
     let mut line = call.name().to_string();
-    if let Call::CreateRuleset { bytes, flags } = call {
-        line += " hex=";
-        for byte in bytes {
-            let _ = write!(line, "{byte:02x}");
-        }
-        if *flags != 0 {
-            let _ = write!(line, " flags={flags}");
-        }
-    } else {
-        for number in written_numbers(call) {
-            let _ = write!(line, " {number}");
-        }
+    for word in argument_words(call) {
+        line.push(' ');
+        line += &word;
     }
     let makes = ["create_ruleset", "clone", "create", "link"].contains(&call.name());
     let expected = match answer {
@@ -104,8 +103,10 @@ fn report_words(call: &Call, report: &[u64]) -> String {
     let [layer, rights, read @ ..] = report else {
         return String::new();
     };
-    if let Call::LayerRules { .. } = call {
-        return String::new();
+    match call {
+        Call::LayerRules { .. } => return String::new(),
+        Call::Component { .. } => return format!(" start={layer} length={rights}"),
+        _ => {}
     }
     let layer = layer.checked_sub(1);
     let layer = layer.map_or("none".to_string(), |layer| layer.to_string());
@@ -114,30 +115,47 @@ fn report_words(call: &Call, report: &[u64]) -> String {
     format!(" layer={layer} rights={rights}{read}")
 }
 
-/// The arguments as a scenario writes them: a rename's entry stands there or not, a report's length
-/// does not.
-fn written_numbers(call: &Call) -> Vec<u64> {
-    match *call {
-        Call::Rename {
-            thread,
-            source,
-            directory,
-            replaces,
-            entry,
-            ..
-        } => {
-            let mut numbers = vec![thread, source, directory];
-            if replaces != 0 {
-                numbers.push(entry);
-            }
-            numbers
+/// The arguments as a scenario writes them, without the length of a report.
+pub fn argument_words(call: &Call) -> Vec<String> {
+    let mut numbers = call.numbers();
+    numbers.truncate(numbers.len() - usize::from(call.report_length().is_some()));
+    let numbers = numbers.iter().map(u64::to_string);
+    let text = call.bytes().map(text_word);
+    match call {
+        Call::CreateRuleset { bytes, flags } => {
+            let flags = (*flags != 0).then(|| format!("flags={flags}"));
+            [hex_word(bytes)].into_iter().chain(flags).collect()
         }
-        _ => {
-            let mut numbers = call.numbers();
-            numbers.truncate(numbers.len() - usize::from(call.report_length().is_some()));
-            numbers
-        }
+        Call::Component { .. } => text.into_iter().chain(numbers).collect(),
+        _ => numbers.chain(text).collect(),
     }
+}
+
+fn hex_word(bytes: &[u8]) -> String {
+    let digits = bytes.iter().map(|byte| format!("{byte:02x}"));
+    format!("hex={}", digits.collect::<String>())
+}
+
+/// A name or a path as a scenario writes it: bytes that are no plain text by their number, many of
+/// one in a row by how many they are.
+fn text_word(bytes: &[u8]) -> String {
+    if bytes.is_empty() {
+        return "\"\"".to_string();
+    }
+    let runs = bytes.chunk_by(|one, next| one == next);
+    let words = runs.map(|run| {
+        let byte = match run[0] {
+            plain if plain.is_ascii_alphanumeric() || b"/._".contains(&plain) => {
+                char::from(plain).to_string()
+            }
+            other => format!("\\x{other:02x}"),
+        };
+        match run.len() {
+            many if many >= MANY => format!("\\*{many}{{{byte}}}"),
+            few => byte.repeat(few),
+        }
+    });
+    words.collect()
 }
 
 fn difference_lines(difference: &Difference) -> Vec<String> {

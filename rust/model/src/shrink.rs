@@ -3,6 +3,7 @@
 use crate::call::{Broker, Call};
 use crate::compare::{first_difference, Case, Difference, Step};
 use crate::damage::Poke;
+use crate::names::Name;
 use crate::reference::Reference;
 use crate::state::{Key, Model, Thread, ROOT};
 use crate::tables::Table;
@@ -27,6 +28,7 @@ pub fn shrink<B: Broker>(broker: &mut B, case: Case) -> Option<(Case, Difference
         | shrinker.simplify_calls()
         | shrinker.drop_parts()
         | shrinker.simplify_counter()
+        | shrinker.simplify_names()
     {}
     Some((shrinker.case, shrinker.difference))
 }
@@ -167,6 +169,22 @@ impl<B: Broker> Shrinker<'_, B> {
         )
     }
 
+    /// Gives entries of the start shorter names.
+    fn simplify_names(&mut self) -> bool {
+        let named: Vec<u64> = self.case.start.names.iter().map(|(n, _)| n).collect();
+        let mut better = false;
+        for number in named {
+            let parent = self.case.start.entries[&number].parent;
+            let name = short_name(&self.case.start, parent);
+            if name.len() < self.case.start.names.of(number).len() {
+                let mut shorter = self.case.clone();
+                shorter.start.put_entry(number, parent, &name);
+                better |= self.differs(shorter);
+            }
+        }
+        better
+    }
+
     /// Lowers the object counter of the start.
     fn simplify_counter(&mut self) -> bool {
         let mut lowered = self.case.clone();
@@ -202,19 +220,37 @@ fn simpler_calls(call: &Call) -> Vec<Call> {
             simpler.push(candidate);
         }
     }
-    if let Call::CreateRuleset { bytes, flags } = call {
-        let flags = *flags;
-        let lengths = [bytes.len() / 2, bytes.len().saturating_sub(1)];
-        let cut = lengths.map(|length| bytes[..length].to_vec());
-        let cleared = (0..bytes.len()).filter(|at| bytes[*at] != 0).map(|at| {
-            let mut bytes = bytes.clone();
+    simpler.extend(simpler_bytes(call).into_iter().filter_map(|bytes| {
+        let mut candidate = call.clone();
+        *candidate.bytes_mut()? = bytes;
+        Some(candidate)
+    }));
+    simpler.retain(|candidate| candidate != call);
+    simpler
+}
+
+/// A call's bytes with some left out, or of an attribute one cleared.
+fn simpler_bytes(call: &Call) -> Vec<Vec<u8>> {
+    let bytes = call.bytes().unwrap_or_default();
+    let (half, last) = (bytes.len() / 2, bytes.len().saturating_sub(1));
+    let cut = [&bytes[..half], &bytes[..last]].map(<[u8]>::to_vec);
+    let mut simpler = Vec::from(cut);
+    if let Call::CreateRuleset { .. } = call {
+        let set = (0..bytes.len()).filter(|at| bytes[*at] != 0);
+        simpler.extend(set.map(|at| {
+            let mut bytes = bytes.to_vec();
             bytes[at] = 0;
             bytes
-        });
-        let all = cut.into_iter().chain(cleared);
-        simpler.extend(all.map(|bytes| Call::CreateRuleset { bytes, flags }));
+        }));
+        return simpler;
     }
-    simpler.retain(|candidate| candidate != call);
+    for length in [bytes.len() / 2, bytes.len() / 8, 1] {
+        let places = (0..bytes.len()).step_by(length.max(1));
+        simpler.extend(places.map(|at| {
+            let end = bytes.len().min(at + length);
+            [&bytes[..at], &bytes[end..]].concat()
+        }));
+    }
     simpler
 }
 
@@ -252,7 +288,13 @@ fn parts(model: &Model) -> Vec<Part> {
 fn drop_part(case: &mut Case, part: &Part) {
     let model = &mut case.start;
     match *part {
-        Part::Entry(number) => drop_entry(model, number),
+        Part::Entry(number) => {
+            let name = model.names.of(number).to_vec();
+            drop_entry(model, number);
+            case.steps
+                .iter_mut()
+                .for_each(|step| drop_name(step, &name));
+        }
         Part::Ruleset(number) => {
             model.rulesets.remove(&number);
         }
@@ -298,16 +340,41 @@ fn drop_layer_rule(case: &mut Case, number: usize, key: Key) {
     move_pokes(case, Table::Pool, after, 3);
 }
 
-/// Takes an entry out of the tree; its children go to its parent.
+/// Takes an entry out of the tree; its children go to its parent, where one whose name is taken
+/// gets another one.
 fn drop_entry(model: &mut Model, number: u64) {
-    let Some(dropped) = model.entries.remove(&number) else {
+    let Ok(dropped) = model.entry(number) else {
         return;
     };
-    for entry in model.entries.values_mut() {
-        if entry.parent == number {
-            entry.parent = dropped.parent;
+    model.free_entry(number);
+    let entries = model.entries.iter();
+    let children = entries.filter(|(_, entry)| entry.parent == number);
+    let children: Vec<u64> = children.map(|(child, _)| *child).collect();
+    for child in children {
+        let mut name = model.names.of(child).to_vec();
+        if model.names.bearer(dropped.parent, &name).is_some() {
+            name = short_name(model, dropped.parent);
+        }
+        model.put_entry(child, dropped.parent, &name);
+    }
+}
+
+/// Takes the first component of a name out of the path of a lookup.
+fn drop_name(step: &mut Step, name: &[u8]) {
+    if let Step::Call(Call::Lookup { path }) = step {
+        let mut parts: Vec<&[u8]> = path.split(|byte| *byte == b'/').collect();
+        if let Some(place) = parts.iter().position(|part| *part == name) {
+            parts.remove(place);
+            *path = parts.join(&b'/');
         }
     }
+}
+
+/// The first short name that is free in a directory.
+fn short_name(model: &Model, directory: u64) -> Name {
+    let names = (0..).map(|number: u64| format!("n{number}").into_bytes());
+    let mut free = names.filter(|name| model.names.bearer(directory, name).is_none());
+    free.next().unwrap_or_default()
 }
 
 /// Takes a layer out of all domains.

@@ -1,9 +1,10 @@
 //! Whether tables are sound, clause by clause, and the model they show if so.
 
+use crate::names::{Names, LONGEST_NAME};
 use crate::rights::{Masks, Rights};
 use crate::state::{
-    Entry, Key, Kind, Layer, Model, Rules, Ruleset, Thread, LAST_LEVEL, MAX_DOMAIN, MAX_LAYERS,
-    MAX_PORT, MAX_RULES, OBJECTS_END, POOL_PLACES, ROOT,
+    Entry, Key, Kind, Layer, Model, Rules, Ruleset, Thread, LAST_LEVEL, MAX_DOMAIN, MAX_ENTRIES,
+    MAX_LAYERS, MAX_PORT, MAX_RULES, OBJECTS_END, POOL_PLACES, ROOT,
 };
 use crate::tables::{Table, Tables, HOLDERS, RULESET_HEAD, RULE_WIDTH};
 use std::collections::BTreeMap;
@@ -36,6 +37,14 @@ clauses! {
     ObjectNotBelowCounter
     LinksOfTwoKinds
     LinkedDirectory
+    NamedRoot
+    NameOfFreeEntry
+    NameLength
+    NamePadding
+    NameOfDots
+    NameWithSlash
+    NameWithZero
+    NameTwice
     ClosedRuleset
     MasksNotOfLevel
     LayerHandlesNothing
@@ -90,6 +99,7 @@ pub fn check(tables: &Tables) -> Checked<Model> {
     };
     model.entries = entries(tables)?;
     tree_sound(&model.entries, next_object)?;
+    model.names = names(tables, &model.entries)?;
     let rule_check = RuleCheck {
         next_object,
         kinds: object_kinds(&model.entries),
@@ -161,6 +171,34 @@ fn tree_sound(entries: &BTreeMap<u64, Entry>, next_object: u64) -> Checked<()> {
         }
     }
     ensure(below_root(entries) == entries.len(), Unsound::NotBelowRoot)
+}
+
+/// The names of the entries other than the root; all other bytes are zero.
+fn names(tables: &Tables, entries: &BTreeMap<u64, Entry>) -> Checked<Names> {
+    let mut named = Vec::new();
+    for number in 0..MAX_ENTRIES {
+        let row = tables.name_row(number as usize);
+        match entries.get(&number) {
+            Some(entry) if number != ROOT => named.push((number, entry.parent, name(row)?)),
+            live => {
+                let clause = live.map_or(Unsound::NameOfFreeEntry, |_| Unsound::NamedRoot);
+                ensure(row == [0; Table::Names.width()], clause)?;
+            }
+        }
+    }
+    Names::of_all(named).ok_or(Unsound::NameTwice)
+}
+
+/// The name in a row: its length, its bytes, zeros.
+fn name(row: &[u8]) -> Checked<&[u8]> {
+    let length = row[0] as usize;
+    ensure((1..=LONGEST_NAME).contains(&length), Unsound::NameLength)?;
+    let (name, padding) = row[1..].split_at(length);
+    ensure(padding.iter().all(|byte| *byte == 0), Unsound::NamePadding)?;
+    ensure(name != b"." && name != b"..", Unsound::NameOfDots)?;
+    ensure(!name.contains(&b'/'), Unsound::NameWithSlash)?;
+    ensure(!name.contains(&0), Unsound::NameWithZero)?;
+    Ok(name)
 }
 
 /// How many entries are reached from the root downwards, the root included.

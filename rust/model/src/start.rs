@@ -1,5 +1,6 @@
 //! Random sound tables to start from: small ones, deep ones, and nearly full ones.
 
+use crate::paths::new_name;
 use crate::rights::{Masks, Rights};
 use crate::state::{
     Entry, Key, Kind, Layer, Model, Rules, Ruleset, Thread, LAST_LEVEL, MAX_DOMAIN, MAX_LAYERS,
@@ -62,7 +63,8 @@ fn grow_tree(model: &mut Model, random: &mut Random) {
     let mut files = Vec::new();
     for number in numbers.into_iter().take(count as usize) {
         let entry = grown(model, random, &growth, &directories, &files);
-        model.entries.insert(number, entry);
+        let name = new_name(model, entry.parent, random);
+        model.add_entry(number, entry, &name);
         if entry.kind.is_directory() {
             directories.push(number);
         } else {

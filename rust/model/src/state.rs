@@ -1,5 +1,6 @@
 //! What the broker keeps, as maps and records.
 
+use crate::names::Names;
 use crate::refusal::{Answer, Refusal};
 use crate::rights::{Masks, Rights};
 use std::collections::{BTreeMap, BTreeSet};
@@ -176,13 +177,14 @@ pub struct Thread {
     pub admin: bool,
 }
 
-/// Sound tables: level, tree, rulesets, layers and threads. The layers are those that a live thread
+/// Sound tables: level, tree and names, rulesets, layers and threads. The layers are those that a live thread
 /// reaches; who holds one, and where its rules stand in the pool, is counted when it is asked.
 #[derive(Clone, PartialEq, Eq, Debug)]
 pub struct Model {
     pub level: u64,
     pub next_object: u64,
     pub entries: BTreeMap<u64, Entry>,
+    pub names: Names,
     pub rulesets: BTreeMap<u64, Ruleset>,
     /// The layers in use by record.
     pub layers: BTreeMap<usize, Layer>,
@@ -203,6 +205,7 @@ impl Model {
             level,
             next_object: 1,
             entries: BTreeMap::from([(ROOT, root)]),
+            names: Names::default(),
             rulesets: BTreeMap::new(),
             layers: BTreeMap::new(),
             runs: Vec::new(),
@@ -227,6 +230,34 @@ impl Model {
             .get(&number)
             .copied()
             .ok_or(Refusal::EntryNotLive)
+    }
+
+    /// Takes a row for an entry, which bears a name in its directory.
+    pub fn add_entry(&mut self, number: u64, entry: Entry, name: &[u8]) {
+        self.names.give(number, entry.parent, name);
+        self.entries.insert(number, entry);
+    }
+
+    /// Frees an entry's row.
+    pub fn free_entry(&mut self, number: u64) {
+        self.names.take(number);
+        self.entries.remove(&number);
+    }
+
+    /// Puts an entry into a directory under a name.
+    pub fn put_entry(&mut self, number: u64, directory: u64, name: &[u8]) {
+        if let Some(entry) = self.entries.get_mut(&number) {
+            entry.parent = directory;
+            self.names.give(number, directory, name);
+        }
+    }
+
+    /// Puts two entries each in the other's place, under its name.
+    pub fn swap_entries(&mut self, one: u64, two: u64) {
+        let [from, to] = [one, two].map(|number| self.entries[&number].parent);
+        let [first, second] = [one, two].map(|number| self.names.take(number));
+        self.put_entry(one, to, &second);
+        self.put_entry(two, from, &first);
     }
 
     pub fn has_children(&self, directory: u64) -> bool {

@@ -1,5 +1,6 @@
-//! The six tables of cells, and the model as their contents.
+//! The seven tables, and the model as their contents.
 
+use crate::names::LONGEST_NAME;
 use crate::rights::{Masks, Rights};
 use crate::state::{
     Key, Model, Rules, MAX_ENTRIES, MAX_LAYERS, MAX_RULES, MAX_RULESETS, MAX_THREADS, POOL_PLACES,
@@ -14,7 +15,10 @@ const LAYER_WIDTH: usize = 7;
 /// The cell of a layer that counts its holders.
 pub const HOLDERS: usize = 6;
 
-/// The six tables.
+/// The bytes of a row of names: the length, the name, zeros.
+const NAME_WIDTH: usize = 1 + LONGEST_NAME;
+
+/// The seven tables.
 #[derive(Clone, Copy, PartialEq, Eq, PartialOrd, Ord, Debug)]
 pub enum Table {
     System,
@@ -23,25 +27,30 @@ pub enum Table {
     Layers,
     Pool,
     Threads,
+    /// The only one of bytes.
+    Names,
 }
 
 impl Table {
-    pub const ALL: [Table; 6] = [
+    pub const ALL: [Table; 7] = [
         Table::System,
         Table::Entries,
         Table::Rulesets,
         Table::Layers,
         Table::Pool,
         Table::Threads,
+        Table::Names,
     ];
 
     pub fn name(self) -> &'static str {
-        ["system", "entries", "rulesets", "layers", "pool", "threads"][self as usize]
+        [
+            "system", "entries", "rulesets", "layers", "pool", "threads", "names",
+        ][self as usize]
     }
 
     /// The cells of a row.
     pub const fn width(self) -> usize {
-        [4, 3, RULESET_WIDTH, LAYER_WIDTH, RULE_WIDTH, 4][self as usize]
+        [4, 3, RULESET_WIDTH, LAYER_WIDTH, RULE_WIDTH, 4, NAME_WIDTH][self as usize]
     }
 
     pub fn rows(self) -> usize {
@@ -52,6 +61,7 @@ impl Table {
             MAX_LAYERS,
             POOL_PLACES,
             MAX_THREADS as usize,
+            MAX_ENTRIES as usize,
         ][self as usize]
     }
 
@@ -60,30 +70,40 @@ impl Table {
     }
 }
 
-/// The cells of the six tables, of any length and contents.
+/// The cells of the seven tables, of any length and contents.
 #[derive(Clone, PartialEq, Eq, Debug)]
 pub struct Tables {
+    /// The tables of numbers.
     pub cells: [Vec<u64>; 6],
+    pub names: Vec<u8>,
 }
 
 impl Default for Tables {
     /// Tables of the right lengths, all zero.
     fn default() -> Tables {
-        Tables {
-            cells: Table::ALL.map(|table| vec![0; table.length()]),
+        let mut tables = Tables {
+            cells: Default::default(),
+            names: Vec::new(),
+        };
+        for table in Table::ALL {
+            tables.resize(table, table.length());
         }
+        tables
     }
 }
 
 impl Tables {
+    /// A table of numbers.
     pub fn of(&self, table: Table) -> &[u64] {
         &self.cells[table as usize]
     }
 
+    /// A table of numbers, to be changed.
     pub fn of_mut(&mut self, table: Table) -> &mut Vec<u64> {
         &mut self.cells[table as usize]
     }
 
+    /// A row of a table of numbers.
     pub fn row(&self, table: Table, row: usize) -> &[u64] {
         let width = table.width();
         &self.of(table)[width * row..width * (row + 1)]
@@ -94,17 +114,54 @@ impl Tables {
         &mut self.of_mut(table)[width * row..width * (row + 1)]
     }
 
+    /// The row of an entry's name.
+    pub fn name_row(&self, entry: usize) -> &[u8] {
+        &self.names[NAME_WIDTH * entry..NAME_WIDTH * (entry + 1)]
+    }
+
+    /// The cells that a table has.
+    pub fn length(&self, table: Table) -> usize {
+        match table {
+            Table::Names => self.names.len(),
+            _ => self.of(table).len(),
+        }
+    }
+
+    /// Cuts a table, or fills it up with zeros.
+    pub fn resize(&mut self, table: Table, length: usize) {
+        match table {
+            Table::Names => self.names.resize(length, 0),
+            _ => self.of_mut(table).resize(length, 0),
+        }
+    }
+
     pub fn right_lengths(&self) -> bool {
         Table::ALL
             .into_iter()
-            .all(|table| self.of(table).len() == table.length())
+            .all(|table| self.length(table) == table.length())
     }
 
-    /// Writes a cell, if the table has it.
+    /// The value of a cell; 0 if the table doesn't have it.
+    pub fn cell(&self, table: Table, cell: usize) -> u64 {
+        let value = match table {
+            Table::Names => self.names.get(cell).copied().map(u64::from),
+            _ => self.of(table).get(cell).copied(),
+        };
+        value.unwrap_or(0)
+    }
+
+    /// Writes a cell, if the table has it; of a name, the value's lowest byte.
     pub fn poke(&mut self, table: Table, cell: usize, value: u64) {
-        if let Some(there) = self.of_mut(table).get_mut(cell) {
-            *there = value;
+        match table {
+            Table::Names => write(&mut self.names, cell, value as u8),
+            _ => write(self.of_mut(table), cell, value),
         }
+    }
+}
+
+fn write<T>(cells: &mut [T], cell: usize, value: T) {
+    if let Some(there) = cells.get_mut(cell) {
+        *there = value;
     }
 }
 
@@ -120,6 +177,7 @@ pub fn encode_into(model: &Model, tables: &mut Tables) {
     for cells in &mut tables.cells {
         cells.fill(0);
     }
+    tables.names.fill(0);
     tables.row_mut(Table::System, 0).copy_from_slice(&[
         model.level,
         model.next_object,
@@ -137,8 +195,17 @@ pub fn encode_into(model: &Model, tables: &mut Tables) {
         let cells = tables.row_mut(Table::Threads, *number as usize);
         cells.copy_from_slice(&row);
     }
+    encode_names(model, tables);
     encode_rulesets(model, tables);
     encode_layers(model, tables);
+}
+
+fn encode_names(model: &Model, tables: &mut Tables) {
+    for (number, name) in model.names.iter() {
+        let first = NAME_WIDTH * number as usize;
+        tables.names[first] = name.len() as u8;
+        tables.names[first + 1..][..name.len()].copy_from_slice(name);
+    }
 }
 
 fn encode_rulesets(model: &Model, tables: &mut Tables) {

@@ -12,7 +12,7 @@ use std::fmt;
 use Refusal::*;
 
 /// The refusals of each call, after the one for tables that aren't sound.
-const REFUSALS: [(&str, &[Refusal]); 20] = [
+const REFUSALS: [(&str, &[Refusal]); 22] = [
     ("fresh", &[WrongLength, UnknownLevel]),
     (
         "create_ruleset",
@@ -104,6 +104,12 @@ const REFUSALS: [(&str, &[Refusal]); 20] = [
             ThreadNotLive,
             EntryNotLive,
             TargetNotDirectory,
+            NameTooLong,
+            EmptyName,
+            NameOfDots,
+            NameWithSlash,
+            NameWithZero,
+            NameTaken,
             UnknownKind,
             AccessDenied,
             NoFreeEntry,
@@ -127,6 +133,12 @@ const REFUSALS: [(&str, &[Refusal]); 20] = [
             EntryNotLive,
             RootNamed,
             TargetNotDirectory,
+            NameTooLong,
+            EmptyName,
+            NameOfDots,
+            NameWithSlash,
+            NameWithZero,
+            NameTaken,
             LinkOfDirectory,
             AccessDenied,
             ReferDenied,
@@ -141,7 +153,11 @@ const REFUSALS: [(&str, &[Refusal]); 20] = [
             EntryNotLive,
             RootNamed,
             TargetNotDirectory,
-            NotChildOfTarget,
+            NameTooLong,
+            EmptyName,
+            NameOfDots,
+            NameWithSlash,
+            NameWithZero,
             SourceAboveTarget,
             AccessDenied,
             ReferDenied,
@@ -167,7 +183,24 @@ const REFUSALS: [(&str, &[Refusal]); 20] = [
             OtherNotContained,
         ],
     ),
+    (
+        "lookup",
+        &[
+            EmptyPath,
+            PathTooLong,
+            RelativePath,
+            PathWithZero,
+            AfterNonDirectory,
+            SlashAfterNonDirectory,
+            ComponentTooLong,
+            NoSuchName,
+        ],
+    ),
+    ("component", &[]),
 ];
+
+/// The calls that tables which aren't sound don't refuse so.
+const WITHOUT_SOUNDNESS: [&str; 2] = ["fresh", "component"];
 
 /// The lengths of reports, in cells, that are to be met with every answer that says something.
 const REPORTS: [u64; 5] = [0, 1, 2, 3, 5];
@@ -273,7 +306,7 @@ impl Tally {
 /// Each call with each of its refusals.
 fn refusals() -> impl Iterator<Item = (&'static str, Refusal)> {
     REFUSALS.iter().flat_map(|(call, refusals)| {
-        let unsound = (*call != "fresh").then_some(NotSound);
+        let unsound = (!WITHOUT_SOUNDNESS.contains(call)).then_some(NotSound);
         let all = unsound.into_iter().chain(refusals.iter().copied());
         all.map(|refusal| (*call, refusal))
     })
@@ -289,12 +322,13 @@ fn reports() -> impl Iterator<Item = Report> {
         NotContained,
         OtherNotContained,
     ];
-    let reporting = REFUSALS
-        .iter()
-        .filter(|(call, refusals)| *call == "layer_rules" || refusals.contains(&AccessDenied));
+    let reporting = REFUSALS.iter().filter(|(call, refusals)| {
+        ["layer_rules", "component"].contains(call) || refusals.contains(&AccessDenied)
+    });
     reporting.flat_map(|(call, refusals)| {
+        let unsound = (!WITHOUT_SOUNDNESS.contains(call)).then_some(NotSound);
         let refused = refusals.iter().filter(|refusal| SAID.contains(refusal));
-        let answers = refused.copied().chain([NotSound]).map(Some).chain([None]);
+        let answers = refused.copied().chain(unsound).map(Some).chain([None]);
         answers.flat_map(|answer| REPORTS.map(|length| (*call, length, answer)))
     })
 }

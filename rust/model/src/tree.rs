@@ -1,6 +1,7 @@
 //! The calls that change the tree: create, remove, link, rename, exchange.
 
 use crate::judge::Move;
+use crate::names::well_named;
 use crate::refusal::{Answer, Refusal};
 use crate::rights::Rights;
 use crate::state::{lowest_free, Entry, Kind, Model, MAX_ENTRIES, OBJECTS_END, ROOT};
@@ -40,32 +41,29 @@ struct Named {
     /// The youngest layer of the calling thread's domain.
     youngest: Option<usize>,
     source: Entry,
-    /// The entry that is replaced or exchanged.
+    /// The entry that is exchanged.
     other: Option<Entry>,
 }
 
 impl Model {
-    pub fn create(&mut self, thread: u64, directory: u64, kind: u64) -> Answer {
+    pub fn create(&mut self, thread: u64, directory: u64, kind: u64, name: &[u8]) -> Answer {
         let youngest = self.thread(thread)?.youngest;
         let target = self.entry(directory)?;
         needs_directory(target)?;
+        self.new_name(directory, name)?;
         let kind = Kind::of_number(kind).ok_or(Refusal::UnknownKind)?;
         self.needs_right(youngest, directory, kind.make())?;
-        let number = self.free_entry()?;
+        let number = self.free_row()?;
         if self.next_object == OBJECTS_END {
             return Err(Refusal::NoObjectNumber);
         }
-        let object = self.next_object;
+        let entry = Entry {
+            kind,
+            parent: directory,
+            object: self.next_object,
+        };
         self.next_object += 1;
-        let parent = directory;
-        self.entries.insert(
-            number,
-            Entry {
-                kind,
-                parent,
-                object,
-            },
-        );
+        self.add_entry(number, entry, name);
         Ok(number)
     }
 
@@ -77,48 +75,50 @@ impl Model {
         if self.has_children(entry) {
             return Err(Refusal::DirectoryNotEmpty);
         }
-        self.entries.remove(&entry);
+        self.free_entry(entry);
         Ok(0)
     }
 
-    pub fn link(&mut self, thread: u64, source: u64, directory: u64) -> Answer {
+    pub fn link(&mut self, thread: u64, source: u64, directory: u64, name: &[u8]) -> Answer {
         let named = self.named(thread, source, directory, None)?;
+        self.new_name(directory, name)?;
         let linked = named.source;
         if linked.kind.is_directory() {
             return Err(Refusal::LinkOfDirectory);
         }
         self.verdict(&named, directory, Needs::of_link(linked.kind))?;
         self.moved_safely(&named, source, directory)?;
-        let number = self.free_entry()?;
+        let number = self.free_row()?;
         let parent = directory;
-        self.entries.insert(number, Entry { parent, ..linked });
+        self.add_entry(number, Entry { parent, ..linked }, name);
         Ok(number)
     }
 
-    /// Moves an entry to a directory, in place of the replaced entry if there is one.
-    pub fn rename(
-        &mut self,
-        thread: u64,
-        source: u64,
-        directory: u64,
-        replaced: Option<u64>,
-    ) -> Answer {
-        let named = self.named(thread, source, directory, replaced)?;
-        self.child_of_target(&named, directory)?;
+    /// Moves an entry to a directory, where it takes a name; the entry that bears it is replaced.
+    pub fn rename(&mut self, thread: u64, source: u64, directory: u64, name: &[u8]) -> Answer {
+        let named = self.named(thread, source, directory, None)?;
+        well_named(name)?;
         self.not_above(source, directory, Refusal::SourceAboveTarget)?;
-        let (moved, other) = (named.source, named.other);
-        let needs = Needs::of_rename(moved.kind, other.map(|other| other.kind));
+        let moved = named.source;
+        let needs = Needs::of_rename(moved.kind, self.replaced_kind(directory, name));
         self.verdict(&named, directory, needs)?;
         self.moved_safely(&named, source, directory)?;
-        if let (Some(number), Some(other)) = (replaced, other) {
-            if other.object == moved.object {
+        if let Some(number) = self.names.bearer(directory, name) {
+            let replaced = self.entries[&number];
+            if replaced.object == moved.object {
                 return Ok(0);
             }
-            self.replaceable(moved, number, other)?;
-            self.entries.remove(&number);
+            self.replaceable(moved, number, replaced)?;
+            self.free_entry(number);
         }
-        self.reparent(source, directory);
+        self.put_entry(source, directory, name);
         Ok(0)
+    }
+
+    /// The kind of the entry that a rename to a name replaces, if there is one.
+    pub fn replaced_kind(&self, directory: u64, name: &[u8]) -> Option<Kind> {
+        let bearer = self.names.bearer(directory, name);
+        bearer.map(|number| self.entries[&number].kind)
     }
 
     pub fn exchange(&mut self, thread: u64, source: u64, directory: u64, entry: u64) -> Answer {
@@ -140,8 +140,7 @@ impl Model {
             return Err(Refusal::OtherNotContained);
         }
         if other.object != named.source.object {
-            self.reparent(source, directory);
-            self.reparent(entry, parent);
+            self.swap_entries(source, entry);
         }
         Ok(0)
     }
@@ -234,14 +233,17 @@ impl Model {
         }
     }
 
-    fn free_entry(&self) -> Answer {
-        lowest_free(&self.entries, MAX_ENTRIES).ok_or(Refusal::NoFreeEntry)
+    /// Refuses a name that is none or that is taken in a directory.
+    fn new_name(&self, directory: u64, name: &[u8]) -> Result<(), Refusal> {
+        well_named(name)?;
+        match self.names.bearer(directory, name) {
+            Some(_) => Err(Refusal::NameTaken),
+            None => Ok(()),
+        }
     }
 
-    fn reparent(&mut self, entry: u64, directory: u64) {
-        if let Some(entry) = self.entries.get_mut(&entry) {
-            entry.parent = directory;
-        }
+    fn free_row(&self) -> Answer {
+        lowest_free(&self.entries, MAX_ENTRIES).ok_or(Refusal::NoFreeEntry)
     }
 }
 

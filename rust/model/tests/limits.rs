@@ -53,6 +53,7 @@ fn refused(tables: &Tables, call: Call, errno: Errno) {
 /// Creates a file in the root.
 fn create() -> Call {
     Call::Create {
+        name: b"new".to_vec(),
         thread: 0,
         directory: 0,
         kind: REGULAR,
@@ -71,6 +72,7 @@ fn remove(entry: u64) -> Call {
 /// Links an entry into the root.
 fn link(source: u64) -> Call {
     Call::Link {
+        name: b"new".to_vec(),
         thread: 0,
         source,
         directory: 0,
@@ -80,11 +82,10 @@ fn link(source: u64) -> Call {
 
 fn rename(source: u64, directory: u64) -> Call {
     Call::Rename {
+        name: b"new".to_vec(),
         thread: 0,
         source,
         directory,
-        replaces: 0,
-        entry: 0,
         report: REPORT,
     }
 }
@@ -121,10 +122,22 @@ fn ready_to_restrict(tables: &mut Tables) {
     succeeds(tables, create_ruleset(), 0);
 }
 
-/// 1,023 entries beside the root, the counter after them.
+/// Writes an entry's name.
+fn write_name(tables: &mut Tables, entry: u64, name: &[u8]) {
+    let first = Names.width() * entry as usize;
+    let row = &mut tables.names[first..first + Names.width()];
+    row.fill(0);
+    row[0] = name.len() as u8;
+    row[1..=name.len()].copy_from_slice(name);
+}
+
+/// 1,023 entries beside the root, each named by its number, the counter after them.
 fn full_tree(row: impl Fn(u64) -> [u64; 3]) -> Tables {
     let mut tables = poked(fresh(6), System, 0, 1, 1024);
     write(&mut tables, Entries, 1..1024, row);
+    for entry in 1..1024 {
+        write_name(&mut tables, entry, entry.to_string().as_bytes());
+    }
     tables
 }
 
@@ -161,7 +174,9 @@ fn depth_1023() {
     refused(&deep, rename(1023, 1023), EINVAL);
     let mut moved = deep.clone();
     succeeds(&mut moved, rename(1023, 0), 0);
-    assert_eq!(moved, poked(deep.clone(), Entries, 1023, 1, 0));
+    let mut expected = poked(deep.clone(), Entries, 1023, 1, 0);
+    write_name(&mut expected, 1023, b"new");
+    assert!(moved == expected);
     let ring = poked(deep.clone(), Entries, 1, 1, 1023);
     unsound(&ring, "a ring of 1,023");
     let linked = poked(deep, Entries, 1023, 2, 1);
@@ -172,6 +187,7 @@ fn depth_1023() {
 fn one_file(object: u64, counter: u64) -> Tables {
     let mut tables = poked(fresh(6), System, 0, 1, counter);
     write(&mut tables, Entries, 1..2, |_| [REGULAR, 0, object]);
+    write_name(&mut tables, 1, b"one");
     tables
 }
 
@@ -187,7 +203,79 @@ fn object_numbers_end() {
     unsound(&one_file(1, end + 1), "counter 4,294,967,297");
     let mut before = poked(fresh(6), System, 0, 1, end - 1);
     succeeds(&mut before, create(), 1);
-    assert_eq!(before, one_file(end - 1, end));
+    let mut expected = one_file(end - 1, end);
+    write_name(&mut expected, 1, b"new");
+    assert!(before == expected);
+}
+
+fn lookup(path: &[u8]) -> Call {
+    let path = path.to_vec();
+    Call::Lookup { path }
+}
+
+/// All of one name, each in the one before.
+#[test]
+fn paths_4095() {
+    let mut deep = full_tree(|number| [DIRECTORY, number - 1, number]);
+    (1..1024).for_each(|entry| write_name(&mut deep, entry, b"abc"));
+    sound(&deep, "1,023 of one name, each in the one before");
+    let path = b"/abc".repeat(1023);
+    assert_eq!(Both::unchanging(&deep, &lookup(&path)), 1023);
+    let longest = [&path[..], b"///"].concat();
+    assert_eq!(longest.len(), 4095);
+    assert_eq!(Both::unchanging(&deep, &lookup(&longest)), 1023);
+    refused(&deep, lookup(&[&path[..], b"////"].concat()), ENAMETOOLONG);
+    refused(&deep, lookup(&[&path[..], b"/ab"].concat()), ENOENT);
+    refused(&deep, lookup(&[&path[..], b"/abc"].concat()), ENAMETOOLONG);
+    refused(&deep, lookup(&longest[1..]), EINVAL);
+    let up = [&path[..], b"/.."].concat();
+    assert_eq!(Both::unchanging(&deep, &lookup(&up)), 1022);
+    refused(&deep, lookup(&[b'a'; 4096]), ENAMETOOLONG);
+    refused(&deep, lookup(&[0; 4096]), ENAMETOOLONG);
+    refused(&deep, lookup(&[b'a'; 4095]), EINVAL);
+    let zero_last = [&path[..], b"//\0"].concat();
+    refused(&deep, lookup(&zero_last), EINVAL);
+    assert_eq!(Both::unchanging(&deep, &lookup(&b"/..".repeat(1365))), 0);
+}
+
+/// All in the root, with names that differ in the last of 48 bytes.
+#[test]
+fn names_48() {
+    let mut tables = full_tree(|number| [REGULAR, 0, number]);
+    let name = |entry: u64| [&[b'n'; 44][..], format!("{entry:04}").as_bytes()].concat();
+    (1..1024).for_each(|entry| write_name(&mut tables, entry, &name(entry)));
+    sound(&tables, "1,023 names of 48 bytes");
+    for entry in [1, 2, 512, 1023] {
+        let path = [b"/", &name(entry)[..]].concat();
+        assert_eq!(Both::unchanging(&tables, &lookup(&path)), entry);
+        refused(&tables, lookup(&path[..48]), ENOENT);
+        refused(&tables, lookup(&[&path[..], b"n"].concat()), ENAMETOOLONG);
+        refused(&tables, lookup(&[&path[..], b"/"].concat()), ENOTDIR);
+    }
+    let to = |entry: u64| Call::Rename {
+        name: name(entry),
+        thread: 0,
+        source: 1,
+        directory: 0,
+        report: REPORT,
+    };
+    assert_eq!(Both::unchanging(&tables, &to(1)), 0);
+    succeeds(&mut tables, to(1023), 0);
+    assert_eq!(tables.row(Entries, 1023), [0, 0, 0]);
+    assert_eq!(tables.name_row(1023), [0; 49]);
+    assert_eq!(tables.name_row(1)[1..], name(1023));
+    write_name(&mut tables, 2, &name(3));
+    unsound(&tables, "the second entry by the third one's name");
+}
+
+/// The names table of other lengths: without the length bytes, of longer names.
+#[test]
+fn names_of_another_length() {
+    for length in [48 * 1024, 50 * 1024, 49 * 1023, 49 * 1025] {
+        let mut tables = fresh(6);
+        tables.resize(Names, length);
+        unsound(&tables, "names of another length");
+    }
 }
 
 #[test]

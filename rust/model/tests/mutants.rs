@@ -5,13 +5,14 @@ use model::compare::{compare, sweep, Case, Difference, Options, Step};
 use model::denial::Denial;
 use model::judge::Move;
 use model::long_run::long_run;
+use model::names::component;
 use model::reference::{Reference, Rereading};
-use model::refusal::{Errno, Refusal};
+use model::refusal::{Answer, Errno, Refusal};
 use model::rights::{Masks, Rights};
 use model::scenario::scenario;
 use model::shrink::shrink;
 use model::sound::{check, Unsound};
-use model::state::{Key, Layer, Model};
+use model::state::{Key, Kind, Layer, Model};
 use model::tables::{encode_into, Table, Tables};
 use model::tally::Tally;
 use std::collections::BTreeMap;
@@ -53,8 +54,7 @@ impl Broker for OneContainment {
             if model.answer(call).0 == Err(Refusal::OtherNotContained) {
                 let (one, two) = (model.entries[source], model.entries[entry]);
                 if one.object != two.object {
-                    model.entries.get_mut(source).unwrap().parent = two.parent;
-                    model.entries.get_mut(entry).unwrap().parent = one.parent;
+                    model.swap_entries(*source, *entry);
                 }
                 encode_into(&model, tables);
                 return Reply::of(Ok(0), call.report_of([0; 3]));
@@ -315,10 +315,22 @@ impl Broker for Clauseless {
 #[test]
 fn clauses_about_layers_that_are_not_tested_are_found() {
     use Unsound::*;
-    for clause in [FreeLayer, LayersUsed, PoolNotFilled, Holders, DomainTooDeep] {
-        let (case, difference) = found(&mut Clauseless(clause));
+    found_clauseless(&[FreeLayer, LayersUsed, PoolNotFilled, Holders, DomainTooDeep]);
+}
+
+#[test]
+fn clauses_about_names_that_are_not_tested_are_found() {
+    use Unsound::*;
+    found_clauseless(&[NamedRoot, NameOfFreeEntry, NameLength, NamePadding]);
+    found_clauseless(&[NameOfDots, NameWithSlash, NameWithZero, NameTwice]);
+}
+
+fn found_clauseless(clauses: &[Unsound]) {
+    for clause in clauses {
+        let (case, difference) = found(&mut Clauseless(*clause));
         let text = scenario(&case, &difference);
-        assert_eq!(case.steps.len(), 2, "{clause:?}: {text}");
+        let short = case.steps.len() <= 3 || is_short(&case);
+        assert!(short, "{clause:?}: {text}");
         assert!(text.contains("=> EIO layer=none"), "{clause:?}: {text}");
     }
 }
@@ -525,25 +537,23 @@ struct FirstCells;
 
 impl Broker for FirstCells {
     fn answer(&mut self, tables: &mut Tables, call: &Call) -> Reply {
-        let rest = Table::ALL.map(|table| past_end(tables, table));
-        if rest.iter().flatten().all(|cell| *cell == 0) {
+        let before = tables.clone();
+        let past = Table::ALL.map(|table| table.length()..before.length(table));
+        let mut set = Table::ALL.into_iter().zip(past.clone());
+        if !set.any(|(table, past)| past.into_iter().any(|cell| before.cell(table, cell) != 0)) {
             return Rereading.answer(tables, call);
         }
         for table in Table::ALL {
-            tables.of_mut(table).truncate(table.length());
+            let length = tables.length(table).min(table.length());
+            tables.resize(table, length);
         }
         let reply = Rereading.answer(tables, call);
-        for (cells, rest) in tables.cells.iter_mut().zip(rest) {
-            cells.extend(rest);
+        for (table, past) in Table::ALL.into_iter().zip(past) {
+            tables.resize(table, before.length(table));
+            past.for_each(|cell| tables.poke(table, cell, before.cell(table, cell)));
         }
         reply
     }
-}
-
-/// The cells past a table's right length.
-fn past_end(tables: &Tables, table: Table) -> Vec<u64> {
-    let cells = tables.of(table).iter();
-    cells.skip(table.length()).copied().collect()
 }
 
 #[test]
@@ -561,7 +571,7 @@ struct EvenLengths;
 impl Broker for EvenLengths {
     fn answer(&mut self, tables: &mut Tables, call: &Call) -> Reply {
         let all = Table::ALL.into_iter();
-        let wrong = all.filter(|table| tables.of(*table).len() != table.length());
+        let wrong = all.filter(|table| tables.length(*table) != table.length());
         match call {
             Call::Access { .. } if wrong.count() == 2 => Reply::of(Ok(0), call.report_of([0; 3])),
             _ => Rereading.answer(tables, call),
@@ -1185,6 +1195,441 @@ fn a_scope_before_a_target_that_is_not_live_is_found() {
     found_reaching(ScopeFirst, 1, [EPERM, ESRCH]);
 }
 
+/// Answers with a number of its own where the rule, given the call, the model before it and its
+/// answer, has one.
+struct Answering(fn(&Model, &Call, Answer) -> Option<Answer>);
+
+impl Broker for Answering {
+    fn answer(&mut self, tables: &mut Tables, call: &Call) -> Reply {
+        let other = check(tables).ok().and_then(|model| {
+            let (answer, _) = model.clone().answer(call);
+            (self.0)(&model, call, answer)
+        });
+        match other {
+            Some(answer) => Reply::of(answer, call.report_of([0; 3])),
+            None => Rereading.answer(tables, call),
+        }
+    }
+}
+
+/// A short case, to which the two sides answer these numbers.
+fn found_answering(rule: fn(&Model, &Call, Answer) -> Option<Answer>, answers: [u64; 2]) -> Case {
+    let (case, difference) = found(&mut Answering(rule));
+    let text = scenario(&case, &difference);
+    assert!(is_short(&case), "{text}");
+    let numbers = [difference.broker.number, difference.model.number];
+    assert_eq!(numbers, answers, "{text}");
+    case
+}
+
+/// The path of a lookup.
+fn looked_up(call: &Call) -> Option<&[u8]> {
+    match call {
+        Call::Lookup { path } => Some(path),
+        _ => None,
+    }
+}
+
+const ENOENT: u64 = (Errno::ENOENT as u64).wrapping_neg();
+const ENOTDIR: u64 = (Errno::ENOTDIR as u64).wrapping_neg();
+const ENAMETOOLONG: u64 = (Errno::ENAMETOOLONG as u64).wrapping_neg();
+const EEXIST: u64 = (Errno::EEXIST as u64).wrapping_neg();
+const EINVAL: u64 = (Errno::EINVAL as u64).wrapping_neg();
+
+#[test]
+fn a_root_without_a_parent_is_found() {
+    let rule = |_: &Model, call: &Call, _: Answer| {
+        let path = looked_up(call)?;
+        path.starts_with(b"/..")
+            .then_some(Err(Refusal::NoSuchName))
+            .filter(|_| path.len() == 3 || path[3] == b'/')
+    };
+    let (case, difference) = found(&mut Answering(rule));
+    let text = scenario(&case, &difference);
+    assert_eq!(case.steps.len(), 1, "{text}");
+    assert_eq!(difference.broker.number, ENOENT, "{text}");
+    assert_ne!(difference.model.number, ENOENT, "{text}");
+}
+
+#[test]
+fn dots_after_a_file_are_found() {
+    let dot = |model: &Model, call: &Call, answer: Answer| {
+        let path = looked_up(call)?.strip_suffix(b"/.")?;
+        (answer == Err(Refusal::AfterNonDirectory)).then(|| model.lookup(path))
+    };
+    let [Step::Call(Call::Lookup { path }), ..] = &found_answering_of_file(dot).steps[..] else {
+        panic!("no lookup");
+    };
+    assert!(path.ends_with(b"/."));
+    let dots = |model: &Model, call: &Call, answer: Answer| {
+        let path = looked_up(call)?.strip_suffix(b"/..")?;
+        let file = model.lookup(path).ok()?;
+        (answer == Err(Refusal::AfterNonDirectory)).then(|| Ok(model.entries[&file].parent))
+    };
+    found_answering_of_file(dots);
+}
+
+#[test]
+fn a_closing_slash_after_a_file_is_found() {
+    let rule = |model: &Model, call: &Call, answer: Answer| {
+        let path = looked_up(call)?;
+        let end = path.iter().rposition(|byte| *byte != b'/')?;
+        (answer == Err(Refusal::SlashAfterNonDirectory)).then(|| model.lookup(&path[..=end]))
+    };
+    found_answering_of_file(rule);
+}
+
+/// One lookup, which the broker answers with an entry or more refusals than ENOTDIR.
+fn found_answering_of_file(rule: fn(&Model, &Call, Answer) -> Option<Answer>) -> Case {
+    let (case, difference) = found(&mut Answering(rule));
+    let text = scenario(&case, &difference);
+    assert_eq!(case.steps.len(), 1, "{text}");
+    assert!(case.start.entries.len() <= 3, "{text}");
+    assert_eq!(difference.model.number, ENOTDIR, "{text}");
+    assert!(difference.broker.number < 1024, "{text}");
+    case
+}
+
+/// The order of a lookup: what is after a file, what is too long, what is not there.
+#[test]
+fn refusals_of_a_lookup_in_another_order_are_found() {
+    let before_all = |_: &Model, call: &Call, answer: Answer| {
+        let path = looked_up(call).filter(|path| path.len() <= 4095)?;
+        let mut parts = path.split(|byte| *byte == b'/');
+        let other = [Refusal::AfterNonDirectory, Refusal::NoSuchName].map(Err);
+        let early = other.contains(&answer) && parts.any(|part| part.len() > 48);
+        early.then_some(Err(Refusal::ComponentTooLong))
+    };
+    let (case, difference) = found(&mut Answering(before_all));
+    let text = scenario(&case, &difference);
+    assert_eq!(case.steps.len(), 1, "{text}");
+    assert_eq!(difference.broker.number, ENAMETOOLONG, "{text}");
+    let unknown = |_: &Model, call: &Call, answer: Answer| {
+        looked_up(call)?;
+        (answer == Err(Refusal::ComponentTooLong)).then_some(Err(Refusal::NoSuchName))
+    };
+    found_answering(unknown, [ENOENT, ENAMETOOLONG]);
+    let zero_late = |model: &Model, call: &Call, answer: Answer| {
+        let path = looked_up(call)?;
+        let late = answer == Err(Refusal::PathWithZero);
+        let shown: Vec<u8> = path.iter().map(|byte| byte.max(&1)).copied().collect();
+        late.then(|| model.lookup(&shown).err().map(Err))?
+    };
+    let (_, difference) = found(&mut Answering(zero_late));
+    assert_eq!(difference.model.number, EINVAL);
+    let one_more = |model: &Model, call: &Call, answer: Answer| {
+        let path = looked_up(call).filter(|path| path.len() == 4096)?;
+        let late = answer == Err(Refusal::PathTooLong);
+        late.then(|| model.lookup(path.strip_prefix(b"/").unwrap_or(path)))
+    };
+    let (_, difference) = found(&mut Answering(one_more));
+    assert_eq!(difference.model.number, ENAMETOOLONG);
+}
+
+/// Follows a path to the root wherever a symlink stands in it.
+#[test]
+fn a_symlink_that_is_followed_is_found() {
+    let followed = |model: &Model, call: &Call, answer: Answer| {
+        let path = looked_up(call)?.strip_suffix(b"/")?;
+        let entry = model.lookup(path).ok()?;
+        let symlink = model.entries[&entry].kind == Kind::Symlink;
+        (symlink && answer.is_err()).then_some(Ok(0))
+    };
+    found_answering(followed, [0, ENOTDIR]);
+}
+
+/// Reports another part of a path, given the path and the place.
+struct Part(fn(&[u8], u64) -> (u64, u64));
+
+impl Broker for Part {
+    fn answer(&mut self, tables: &mut Tables, call: &Call) -> Reply {
+        match call {
+            Call::Component { path, place, .. } => {
+                let (start, length) = (self.0)(path, *place);
+                Reply::of(Ok(0), call.report_of([start, length, 0]))
+            }
+            _ => Rereading.answer(tables, call),
+        }
+    }
+}
+
+/// A case of one component, of a path of few bytes.
+fn found_part(part: fn(&[u8], u64) -> (u64, u64)) {
+    let (case, difference) = found(&mut Part(part));
+    let text = scenario(&case, &difference);
+    let [Step::Call(Call::Component { path, .. })] = &case.steps[..] else {
+        panic!("{text}");
+    };
+    assert!(path.len() <= 4, "{text}");
+    assert_ne!(difference.broker.report, difference.model.report, "{text}");
+}
+
+#[test]
+fn a_wrong_part_of_a_path_is_found() {
+    // The rest of the component that a place lies in.
+    found_part(|path, place| {
+        let from = (place as usize).min(path.len());
+        let (start, length) = component(&path[from..], 0);
+        (start + if length == 0 { 0 } else { from as u64 }, length)
+    });
+    // The component that a place lies in.
+    found_part(|path, place| {
+        let starts = (0..=place.min(path.len() as u64)).rev();
+        let mut parts = starts.map(|start| component(path, start));
+        let around = parts.find(|(start, length)| *length > 0 && *start <= place);
+        let around = around.filter(|(start, length)| place < start + length);
+        around.unwrap_or_else(|| component(path, place))
+    });
+    // All that is left of the path.
+    found_part(|path, place| match component(path, place) {
+        (_, 0) => (0, 0),
+        (start, _) => (start, path.len() as u64 - start),
+    });
+    // The next one after the place.
+    found_part(|path, place| component(path, place.saturating_add(1)));
+    // A place behind the path where there is none.
+    found_part(|path, place| match component(path, place) {
+        (_, 0) => (path.len() as u64, 0),
+        part => part,
+    });
+}
+
+/// The name of a call that makes an entry, and the directory.
+fn made(call: &Call) -> Option<(&[u8], u64)> {
+    match call {
+        Call::Create {
+            name, directory, ..
+        }
+        | Call::Link {
+            name, directory, ..
+        } => Some((name, *directory)),
+        _ => None,
+    }
+}
+
+#[test]
+fn a_taken_name_tested_late_is_found() {
+    // After the check that a link is not one of a directory.
+    let after_eperm = |model: &Model, call: &Call, answer: Answer| {
+        let Call::Link { source, .. } = call else {
+            return None;
+        };
+        let directory = model.entries.get(source)?.kind.is_directory();
+        let late = directory && answer == Err(Refusal::NameTaken);
+        late.then_some(Err(Refusal::LinkOfDirectory))
+    };
+    found_answering(after_eperm, [EPERM, EEXIST]);
+    let after_kind = |_: &Model, call: &Call, answer: Answer| {
+        let Call::Create { kind, .. } = call else {
+            return None;
+        };
+        let late = Kind::of_number(*kind).is_none() && answer == Err(Refusal::NameTaken);
+        late.then_some(Err(Refusal::UnknownKind))
+    };
+    found_answering(after_kind, [EINVAL, EEXIST]);
+    // Before the name is known to be one.
+    let before_the_target = |_: &Model, call: &Call, answer: Answer| {
+        let (name, _) = made(call)?;
+        let late = name.len() > 48 && answer == Err(Refusal::TargetNotDirectory);
+        late.then_some(Err(Refusal::NameTooLong))
+    };
+    found_answering(before_the_target, [ENAMETOOLONG, ENOTDIR]);
+}
+
+#[test]
+fn a_name_that_is_unique_in_the_whole_tree_is_found() {
+    let rule = |model: &Model, call: &Call, answer: Answer| {
+        let (name, _) = made(call)?;
+        let late = answer.is_ok() && model.names.iter().any(|(_, other)| other == name);
+        late.then_some(Err(Refusal::NameTaken))
+    };
+    let (case, difference) = found(&mut Answering(rule));
+    let text = scenario(&case, &difference);
+    assert!(is_short(&case), "{text}");
+    assert_eq!(difference.broker.number, EEXIST, "{text}");
+    // And in the tables.
+    let narrow = |model: &Model| {
+        let mut names: Vec<&[u8]> = model.names.iter().map(|(_, name)| name).collect();
+        let all = names.len();
+        names.sort();
+        names.dedup();
+        names.len() < all
+    };
+    let (case, difference) = found(&mut Narrow(narrow));
+    let text = scenario(&case, &difference);
+    assert!(case.start.entries.len() <= 4, "{text}");
+    assert_eq!(difference.broker.number, Errno::EIO.returned(), "{text}");
+}
+
+#[test]
+fn names_of_other_lengths_are_found() {
+    // Of 49 bytes, cut to what a row has room for.
+    let longer = |model: &Model, call: &Call, answer: Answer| {
+        let mut shorter = call.clone();
+        let name = shorter.bytes_mut()?;
+        let one_more = name.len() == 49 && answer == Err(Refusal::NameTooLong);
+        name.truncate(48);
+        one_more.then(|| model.clone().answer(&shorter).0)
+    };
+    let (_, difference) = found(&mut Answering(longer));
+    assert_eq!(difference.model.number, ENAMETOOLONG);
+    let shorter = |_: &Model, call: &Call, answer: Answer| {
+        let (name, _) = made(call)?;
+        let late = name.len() == 48 && answer.is_ok();
+        late.then_some(Err(Refusal::NameTooLong))
+    };
+    let (_, difference) = found(&mut Answering(shorter));
+    assert_eq!(difference.broker.number, ENAMETOOLONG);
+    // The length in one byte.
+    let by_a_byte = |model: &Model, call: &Call, answer: Answer| {
+        let mut shorter = call.clone();
+        let name = shorter.bytes_mut()?;
+        name.truncate(name.len() % 256);
+        (answer == Err(Refusal::NameTooLong)).then(|| model.clone().answer(&shorter).0)
+    };
+    let (_, difference) = found(&mut Answering(by_a_byte));
+    assert_eq!(difference.model.number, ENAMETOOLONG);
+}
+
+#[test]
+fn an_exchange_that_keeps_names_is_found() {
+    let fault = |call: &Call, before: &Tables, after: &mut Tables| {
+        if let Call::Exchange { .. } = call {
+            after.names.clone_from(&before.names);
+        }
+    };
+    found_rewriting(fault, 0, 0);
+    // Only where both stand in one directory.
+    let fault = |call: &Call, before: &Tables, after: &mut Tables| {
+        if let Call::Exchange { .. } = call {
+            if before.of(Table::Entries) == after.of(Table::Entries) {
+                after.names.clone_from(&before.names);
+            }
+        }
+    };
+    found_rewriting(fault, 0, 0);
+}
+
+#[test]
+fn names_of_freed_rows_are_found() {
+    let freed = |before: &Tables, after: &Tables| {
+        let live = |tables: &Tables, row: usize| tables.row(Table::Entries, row)[0] != 0;
+        (0..1024).find(|row| live(before, *row) && !live(after, *row))
+    };
+    for of_rename in [false, true] {
+        let fault = move |call: &Call, before: &Tables, after: &mut Tables| {
+            let made = matches!(call, Call::Rename { .. }) == of_rename;
+            let fresh = matches!(call, Call::Fresh { .. });
+            if let Some(row) = freed(before, after).filter(|_| made && !fresh) {
+                let first = Table::Names.width() * row;
+                let cells = first..first + Table::Names.width();
+                after.names[cells.clone()].copy_from_slice(&before.names[cells]);
+            }
+        };
+        found_rewriting(fault, 0, 0);
+    }
+}
+
+#[test]
+fn a_name_that_is_not_padded_is_found() {
+    let fault = |call: &Call, before: &Tables, after: &mut Tables| {
+        if let Call::Rename { name, source, .. } = call {
+            let first = Table::Names.width() * *source as usize;
+            let rest = first + 1 + name.len()..first + Table::Names.width();
+            if before.names != after.names {
+                after.names[rest.clone()].copy_from_slice(&before.names[rest]);
+            }
+        }
+    };
+    found_rewriting(fault, 0, 0);
+}
+
+/// Renames by freeing whatever bears the name, the source too.
+struct FreeingTheSource;
+
+impl Broker for FreeingTheSource {
+    fn answer(&mut self, tables: &mut Tables, call: &Call) -> Reply {
+        if let (
+            Call::Rename {
+                name,
+                source,
+                directory,
+                ..
+            },
+            Ok(mut model),
+        ) = (call, check(tables))
+        {
+            let own = model.names.bearer(*directory, name) == Some(*source);
+            if own && model.answer(call).0 == Ok(0) && !model.has_children(*source) {
+                model.free_entry(*source);
+                encode_into(&model, tables);
+                return Reply::of(Ok(0), call.report_of([0; 3]));
+            }
+        }
+        Rereading.answer(tables, call)
+    }
+}
+
+#[test]
+fn a_source_that_is_freed_is_found() {
+    let (case, difference) = found(&mut FreeingTheSource);
+    let text = scenario(&case, &difference);
+    assert_eq!(case.steps.len(), 1, "{text}");
+    assert!(case.start.entries.len() <= 3, "{text}");
+    assert!(!difference.cells.is_empty(), "{text}");
+}
+
+#[test]
+fn a_rename_without_a_new_name_is_found() {
+    let in_place = |_: &Model, call: &Call, answer: Answer| {
+        let Call::Rename { .. } = call else {
+            return None;
+        };
+        answer.ok().map(Ok)
+    };
+    let (case, difference) = found(&mut Answering(in_place));
+    let text = scenario(&case, &difference);
+    assert_eq!(case.steps.len(), 1, "{text}");
+    assert!(!difference.cells.is_empty(), "{text}");
+    // EEXIST in place of a replacement.
+    let taken = |model: &Model, call: &Call, answer: Answer| {
+        let Call::Rename {
+            name, directory, ..
+        } = call
+        else {
+            return None;
+        };
+        let late = answer.is_ok() && model.names.bearer(*directory, name).is_some();
+        late.then_some(Err(Refusal::NameTaken))
+    };
+    found_answering(taken, [EEXIST, 0]);
+}
+
+/// Names the replaced entry's kind in the verdict only where it isn't the source.
+#[test]
+fn the_needs_of_a_replaced_entry_are_found() {
+    let rule = |model: &Model, call: &Call, answer: Answer| {
+        let Call::Rename {
+            name,
+            source,
+            directory,
+            ..
+        } = call
+        else {
+            return None;
+        };
+        let replaced = model.names.bearer(*directory, name)?;
+        let mut without = model.clone();
+        let other = replaced != *source && !model.has_children(replaced);
+        if answer != Err(Refusal::AccessDenied) || !other {
+            return None;
+        }
+        without.free_entry(replaced);
+        without.answer(call).0.ok().map(Ok)
+    };
+    found_answering(rule, [0, Errno::EACCES.returned()]);
+}
+
 /// Looks at the first bytes of an attribute alone.
 struct FirstBytes;
 
@@ -1215,7 +1660,7 @@ fn a_byte_of_a_long_attribute_is_found() {
 fn the_model_does_not_differ_from_itself_and_meets_everything() {
     let options = Options {
         seed: 1,
-        calls: 40_000,
+        calls: 50_000,
         seconds: None,
     };
     let mut tally = Tally::default();

@@ -1,7 +1,7 @@
 //! Pairs of refusals that hold at once: the one that stands first in the order answers, and nothing
 //! changes. The model is asked which refusal it is, the proved core for the number.
 
-use model::call::{Broker, Call};
+use model::call::{Broker, Call, UNWRITTEN};
 use model::proved::Both;
 use model::refusal::Refusal::{self, *};
 use model::refusal::{returned, Answer};
@@ -16,7 +16,8 @@ const DIRECTORY: u64 = 2;
 /// The cells of a report, more than are said.
 const REPORT: u64 = 5;
 
-/// Directories 1 and 2, files 3 in 1 and 4 in 2, a directory 5 in 2 with a file 6; a ruleset 0.
+/// Directories 1 and 2, files 3 in 1 and 4 in 2, a directory 5 in 2 with a file 6, each named by its
+/// number; a ruleset 0.
 fn sample() -> Model {
     let mut model = Model::fresh(6);
     let places = [
@@ -27,13 +28,32 @@ fn sample() -> Model {
         (2, DIRECTORY),
         (5, REGULAR),
     ];
-    for (directory, kind) in places {
-        model.create(0, directory, kind).unwrap();
+    for (number, (directory, kind)) in (1..).zip(places) {
+        model.create(0, directory, kind, &named(number)).unwrap();
     }
     open(&mut model, Rights::ALL);
     model.set_no_new_privs(0).unwrap();
     model
 }
+
+/// A number as a name.
+fn named(number: u64) -> Vec<u8> {
+    number.to_string().into_bytes()
+}
+
+/// What can't be a name, and why.
+const BAD_NAMES: [(&[u8], Refusal); 10] = [
+    (&[b'a'; 49], NameTooLong),
+    (&[b'/'; 49], NameTooLong),
+    (&[0; 256], NameTooLong),
+    (b"", EmptyName),
+    (b".", NameOfDots),
+    (b"..", NameOfDots),
+    (b"/", NameWithSlash),
+    (b"a/", NameWithSlash),
+    (b"\0", NameWithZero),
+    (b"a\0", NameWithZero),
+];
 
 /// Opens a ruleset that handles file system rights and both network rights.
 fn open(model: &mut Model, fs: Rights) -> u64 {
@@ -310,35 +330,45 @@ fn requests_order() {
 
 /// Creates files in directory 1 until no entry is free.
 fn fill_tree(model: &mut Model) {
-    while model.create(0, 1, REGULAR).is_ok() {}
+    for number in 100.. {
+        if model.create(0, 1, REGULAR, &named(number)).is_err() {
+            break;
+        }
+    }
     assert_eq!(model.entries.len(), 1024);
 }
 
 #[test]
 fn create_order() {
-    let create = |thread, directory, kind| Call::Create {
+    let create = |thread, directory, kind, name: &[u8]| Call::Create {
+        name: name.to_vec(),
         thread,
         directory,
         kind,
         report: REPORT,
     };
     let mut model = sample();
-    refused(&model, create(8, 99, 0), ThreadNotLive);
-    refused(&model, create(0, 99, 0), EntryNotLive);
-    refused(&model, create(0, 3, 0), TargetNotDirectory);
+    refused(&model, create(8, 99, 0, b""), ThreadNotLive);
+    refused(&model, create(0, 99, 0, b""), EntryNotLive);
+    refused(&model, create(0, 3, 0, &[b'a'; 49]), TargetNotDirectory);
     fill_tree(&mut model);
     let mut denied = model.clone();
     deny(&mut denied, Rights::MAKE_REG);
     for kind in [0, 8, 1 << 63] {
-        refused(&model, create(0, 1, kind), UnknownKind);
-        refused(&denied, create(0, 1, kind), UnknownKind);
+        for (name, refusal) in BAD_NAMES {
+            refused(&denied, create(0, 1, kind, name), refusal);
+        }
+        refused(&denied, create(0, 1, kind, b"3"), NameTaken);
+        refused(&model, create(0, 1, kind, b"new"), UnknownKind);
+        refused(&denied, create(0, 1, kind, b"new"), UnknownKind);
     }
-    refused(&denied, create(0, 1, REGULAR), AccessDenied);
-    refused(&model, create(0, 1, REGULAR), NoFreeEntry);
+    refused(&denied, create(0, 1, REGULAR, b"3"), NameTaken);
+    refused(&denied, create(0, 1, REGULAR, b"new"), AccessDenied);
+    refused(&model, create(0, 1, REGULAR, b"4"), NoFreeEntry);
     model.remove(0, 3).unwrap();
     model.next_object = OBJECTS_END;
-    refused(&model, create(0, 1, REGULAR), NoObjectNumber);
-    assert_eq!(model.link(0, 4, 1), Ok(3));
+    refused(&model, create(0, 1, REGULAR, b"3"), NoObjectNumber);
+    assert_eq!(model.link(0, 4, 1, b"3"), Ok(3));
 }
 
 #[test]
@@ -360,38 +390,44 @@ fn remove_order() {
 
 #[test]
 fn link_order() {
-    let link = |thread, source, directory| Call::Link {
+    let link = |thread, source, directory, name: &[u8]| Call::Link {
+        name: name.to_vec(),
         thread,
         source,
         directory,
         report: REPORT,
     };
     let mut model = sample();
-    refused(&model, link(8, 99, 99), ThreadNotLive);
-    refused(&model, link(0, 0, 99), EntryNotLive);
-    refused(&model, link(0, 0, 3), RootNamed);
-    refused(&model, link(0, 1, 3), TargetNotDirectory);
+    refused(&model, link(8, 99, 99, b""), ThreadNotLive);
+    refused(&model, link(0, 0, 99, b""), EntryNotLive);
+    refused(&model, link(0, 99, 0, b""), EntryNotLive);
+    refused(&model, link(0, 0, 3, b""), RootNamed);
+    refused(&model, link(0, 1, 3, b""), TargetNotDirectory);
     fill_tree(&mut model);
-    refused(&model, link(0, 3, 1), NoFreeEntry);
+    refused(&model, link(0, 3, 1, b"new"), NoFreeEntry);
     let mut uneven = uneven(2);
     fill_tree(&mut uneven);
-    refused(&uneven, link(0, 3, 2), NotContained);
+    refused(&uneven, link(0, 3, 2, b"new"), NotContained);
     deny(&mut model, Rights::NONE);
-    refused(&model, link(0, 3, 2), NoFreeEntry);
+    refused(&model, link(0, 3, 2, b"new"), NoFreeEntry);
     deny(&mut model, Rights::EXECUTE);
-    refused(&model, link(0, 3, 2), ReferDenied);
+    refused(&model, link(0, 3, 2, b"new"), ReferDenied);
     deny(&mut model, Rights::MAKE_REG);
-    refused(&model, link(0, 1, 2), LinkOfDirectory);
-    refused(&model, link(0, 3, 2), AccessDenied);
+    for (name, refusal) in BAD_NAMES {
+        refused(&model, link(0, 1, 2, name), refusal);
+    }
+    refused(&model, link(0, 1, 2, b"4"), NameTaken);
+    refused(&model, link(0, 1, 2, b"new"), LinkOfDirectory);
+    refused(&model, link(0, 3, 2, b"4"), NameTaken);
+    refused(&model, link(0, 3, 2, b"new"), AccessDenied);
 }
 
-fn rename(thread: u64, source: u64, directory: u64, entry: Option<u64>) -> Call {
+fn rename(thread: u64, source: u64, directory: u64, name: &[u8]) -> Call {
     Call::Rename {
+        name: name.to_vec(),
         thread,
         source,
         directory,
-        replaces: entry.is_some().into(),
-        entry: entry.unwrap_or(u64::MAX),
         report: REPORT,
     }
 }
@@ -399,30 +435,59 @@ fn rename(thread: u64, source: u64, directory: u64, entry: Option<u64>) -> Call 
 #[test]
 fn rename_order() {
     let mut model = sample();
-    refused(&model, rename(8, 99, 99, None), ThreadNotLive);
-    refused(&model, rename(0, 0, 3, Some(99)), EntryNotLive);
-    refused(&model, rename(0, 3, 4, Some(0)), RootNamed);
-    refused(&model, rename(0, 3, 4, Some(5)), TargetNotDirectory);
-    refused(&model, rename(0, 2, 5, Some(3)), NotChildOfTarget);
-    refused(&model, rename(0, 2, 5, Some(6)), SourceAboveTarget);
-    refused(&model, rename(0, 1, 2, Some(4)), DirectoryOverFile);
-    refused(&model, rename(0, 3, 2, Some(5)), FileOverDirectory);
-    refused(&model, rename(0, 6, 2, Some(5)), FileOverDirectory);
-    refused(&model, rename(0, 1, 2, Some(5)), DirectoryNotEmpty);
+    refused(&model, rename(8, 99, 99, b""), ThreadNotLive);
+    refused(&model, rename(0, 0, 99, b""), EntryNotLive);
+    refused(&model, rename(0, 99, 0, b""), EntryNotLive);
+    refused(&model, rename(0, 0, 3, b""), RootNamed);
+    refused(&model, rename(0, 3, 4, b""), TargetNotDirectory);
+    for (name, refusal) in BAD_NAMES {
+        refused(&model, rename(0, 2, 5, name), refusal);
+    }
+    refused(&model, rename(0, 2, 5, b"6"), SourceAboveTarget);
+    refused(&model, rename(0, 2, 2, b"new"), SourceAboveTarget);
+    refused(&model, rename(0, 1, 2, b"4"), DirectoryOverFile);
+    refused(&model, rename(0, 3, 2, b"5"), FileOverDirectory);
+    refused(&model, rename(0, 6, 2, b"5"), FileOverDirectory);
+    refused(&model, rename(0, 1, 2, b"5"), DirectoryNotEmpty);
     deny(&mut model, Rights::NONE);
-    refused(&model, rename(0, 1, 2, Some(4)), DirectoryOverFile);
+    refused(&model, rename(0, 1, 2, b"4"), DirectoryOverFile);
     deny(&mut model, Rights::EXECUTE);
-    refused(&model, rename(0, 1, 2, Some(4)), ReferDenied);
+    refused(&model, rename(0, 1, 2, b"4"), ReferDenied);
     deny(&mut model, Rights::REMOVE_FILE);
-    refused(&model, rename(0, 1, 2, Some(4)), AccessDenied);
+    refused(&model, rename(0, 1, 2, b"4"), AccessDenied);
+    refused(&model, rename(0, 1, 2, b"new"), ReferDenied);
+    refused(&model, rename(0, 1, 1, b"new"), SourceAboveTarget);
+    assert_eq!(model.rename(0, 1, 0, b"new"), Ok(0));
+}
+
+/// The name changes, in the same directory and in another one; a name elsewhere is no other's.
+#[test]
+fn rename_changes_the_name() {
+    let mut model = sample();
+    answered(&mut model, rename(0, 3, 1, b"new"), 0);
+    assert_eq!(model.lookup(b"/1/new"), Ok(3));
+    assert_eq!(model.lookup(b"/1/3"), Err(NoSuchName));
+    answered(&mut model, rename(0, 3, 2, b"new"), 0);
+    assert_eq!(model.lookup(b"/2/new"), Ok(3));
+    assert_eq!(model.lookup(b"/1/new"), Err(NoSuchName));
+    answered(&mut model, rename(0, 3, 5, b"4"), 0);
+    assert_eq!(model.lookup(b"/2/4"), Ok(4));
+    answered(&mut model, rename(0, 3, 2, b"4"), 0);
+    assert_eq!(model.lookup(b"/2/4"), Ok(3));
+    assert!(!model.entries.contains_key(&4));
+    answered(&mut model, rename(0, 3, 2, &[b'n'; 48]), 0);
+    refused(&model, rename(0, 3, 2, b"."), NameOfDots);
+    answered(&mut model, rename(0, 3, 2, b"..."), 0);
+    assert_eq!(model.lookup(b"/2/..."), Ok(3));
 }
 
 #[test]
 fn rename_of_one_object_changes_nothing() {
     let mut model = sample();
-    let link = model.link(0, 3, 2).unwrap();
-    unchanged(&model, rename(0, 3, 2, Some(link)), Ok(0));
-    unchanged(&model, rename(0, 3, 1, Some(3)), Ok(0));
+    let link = model.link(0, 3, 2, b"link").unwrap();
+    unchanged(&model, rename(0, 3, 2, b"link"), Ok(0));
+    unchanged(&model, rename(0, link, 1, b"3"), Ok(0));
+    unchanged(&model, rename(0, 3, 1, b"3"), Ok(0));
     unchanged(&model, exchange(0, 3, 2, link), Ok(0));
 }
 
@@ -430,20 +495,20 @@ fn rename_of_one_object_changes_nothing() {
 fn rename_of_a_directory_in_use_over_itself_changes_nothing() {
     let mut model = sample();
     assert!(model.has_children(5));
-    unchanged(&model, rename(0, 5, 2, Some(5)), Ok(0));
+    unchanged(&model, rename(0, 5, 2, b"5"), Ok(0));
     unchanged(&model, exchange(0, 5, 2, 5), Ok(0));
     deny(&mut model, Rights::REMOVE_DIR);
-    refused(&model, rename(0, 5, 2, Some(5)), AccessDenied);
+    refused(&model, rename(0, 5, 2, b"5"), AccessDenied);
     refused(&model, exchange(0, 5, 2, 5), AccessDenied);
 }
 
 #[test]
 fn rename_replaces() {
     let mut model = sample();
-    assert_eq!(model.rename(0, 3, 2, Some(4)), Ok(0));
+    answered(&mut model, rename(0, 3, 2, b"4"), 0);
     assert_eq!(model.entries[&3].parent, 2);
     assert!(!model.entries.contains_key(&4));
-    assert_eq!(model.create(0, 0, REGULAR), Ok(4));
+    assert_eq!(model.create(0, 0, REGULAR, b"4"), Ok(4));
     assert_eq!(model.entries[&4].object, 7);
 }
 
@@ -471,6 +536,154 @@ fn exchange_order() {
     refused(&model, exchange(0, 6, 0, 2), OtherAboveSource);
     refused(&model, exchange(0, 3, 2, 4), AccessDenied);
     assert_eq!(model.exchange(0, 1, 0, 2), Ok(0));
+}
+
+/// Names go with the places, within one directory too.
+#[test]
+fn exchange_swaps_names() {
+    let mut model = sample();
+    answered(&mut model, exchange(0, 3, 2, 5), 0);
+    assert_eq!(model.lookup(b"/1/3"), Ok(5));
+    assert_eq!(model.lookup(b"/2/5"), Ok(3));
+    assert_eq!(model.lookup(b"/1/3/6"), Ok(6));
+    answered(&mut model, exchange(0, 1, 0, 2), 0);
+    assert_eq!(model.lookup(b"/1"), Ok(2));
+    assert_eq!(model.lookup(b"/2/3/6"), Ok(6));
+}
+
+fn looked_up(model: &Model, path: &[u8], answer: Answer) {
+    let path = path.to_vec();
+    unchanged(model, Call::Lookup { path }, answer);
+}
+
+#[test]
+fn lookup_order() {
+    let mut model = sample();
+    model.create(0, 5, 7, b"link").unwrap();
+    model.create(0, 1, REGULAR, &[b'n'; 48]).unwrap();
+    looked_up(&model, b"", Err(EmptyPath));
+    looked_up(&model, &[0; 4096], Err(PathTooLong));
+    looked_up(&model, b"1\0", Err(RelativePath));
+    looked_up(&model, b"\0", Err(RelativePath));
+    looked_up(&model, b"/none\0", Err(PathWithZero));
+    looked_up(&model, b"/1/3/none/\0", Err(PathWithZero));
+    let long = [b'n'; 49];
+    let with = |parts: [&[u8]; 3]| parts.concat();
+    looked_up(
+        &model,
+        &with([b"/1/3/", &long, b""]),
+        Err(AfterNonDirectory),
+    );
+    looked_up(&model, &with([b"/none/", &long, b""]), Err(NoSuchName));
+    looked_up(
+        &model,
+        &with([b"/", &long, b"/none"]),
+        Err(ComponentTooLong),
+    );
+    looked_up(&model, &with([b"/1/", &long, b""]), Err(ComponentTooLong));
+    looked_up(&model, &with([b"/1/", &long[1..], b""]), Ok(8));
+    looked_up(&model, &with([b"/1/", &long[2..], b""]), Err(NoSuchName));
+    for end in [&b"/."[..], b"/..", b"/none", b"//none", b"/./"] {
+        looked_up(&model, &[b"/1/3", end].concat(), Err(AfterNonDirectory));
+        looked_up(
+            &model,
+            &[b"/2/5/link", end].concat(),
+            Err(AfterNonDirectory),
+        );
+    }
+    for end in [&b"/"[..], b"//", b"///"] {
+        looked_up(
+            &model,
+            &[b"/1/3", end].concat(),
+            Err(SlashAfterNonDirectory),
+        );
+        looked_up(
+            &model,
+            &[b"/2/5/link", end].concat(),
+            Err(SlashAfterNonDirectory),
+        );
+    }
+}
+
+#[test]
+fn paths() {
+    let mut model = sample();
+    model.create(0, 5, 7, b"link").unwrap();
+    for root in [
+        &b"/"[..],
+        b"//",
+        b"/.",
+        b"/..",
+        b"/../../.",
+        b"/2/5/../..",
+        b"/./",
+    ] {
+        looked_up(&model, root, Ok(0));
+    }
+    for file in [
+        &b"/2/5/6"[..],
+        b"//2///5//6",
+        b"/2/./5/6",
+        b"/1/../2/5/6",
+        b"/../2/5/../5/6",
+    ] {
+        looked_up(&model, file, Ok(6));
+    }
+    for directory in [
+        &b"/2/5"[..],
+        b"/2/5/",
+        b"/2/5//",
+        b"/2/5/.",
+        b"/2/5/./",
+        b"/2/5/../5/",
+    ] {
+        looked_up(&model, directory, Ok(5));
+    }
+    looked_up(&model, b"/2/5/link", Ok(7));
+    looked_up(&model, b"/2/..", Ok(0));
+    looked_up(&model, b"/2/3", Err(NoSuchName));
+    looked_up(&model, b"/2/5/6/..", Err(AfterNonDirectory));
+    looked_up(&model, b"/2/55", Err(NoSuchName));
+    looked_up(&model, b"/2/", Ok(2));
+    looked_up(&model, b"/...", Err(NoSuchName));
+}
+
+/// The component call: the start and the length it reports.
+fn shown(path: &[u8], place: u64) -> [u64; 2] {
+    let call = Call::Component {
+        path: path.to_vec(),
+        place,
+        report: REPORT,
+    };
+    let mut unsound = encode(&sample());
+    unsound.cells[0][0] = 7;
+    let reply = Both.answer(&mut unsound, &call);
+    assert_eq!(reply.number, 0);
+    assert_eq!(reply.report[2..], [UNWRITTEN; 3]);
+    [reply.report[0], reply.report[1]]
+}
+
+#[test]
+fn components() {
+    let path = b"//ab/c\0d//./..//e/";
+    let expected = [(0..=2, [2, 2]), (3..=5, [5, 3]), (6..=10, [10, 1])];
+    for (places, part) in expected {
+        for place in places {
+            assert_eq!(shown(path, place), part, "{place}");
+        }
+    }
+    assert_eq!(shown(path, 11), [12, 2]);
+    assert_eq!(shown(path, 13), [16, 1]);
+    for place in [17, 18, 19, 4096, 1 << 32, u64::MAX] {
+        assert_eq!(shown(path, place), [0, 0], "{place}");
+    }
+    assert_eq!(shown(b"", 0), [0, 0]);
+    assert_eq!(shown(b"///", 0), [0, 0]);
+    assert_eq!(shown(b"ab/c", 0), [0, 2]);
+    assert_eq!(shown(b"ab/c", 1), [3, 1]);
+    assert_eq!(shown(&[b'a'; 5000], 0), [0, 5000]);
+    let long = [&b"/".repeat(70_000)[..], b"abc"].concat();
+    assert_eq!(shown(&long, 5), [70_000, 3]);
 }
 
 /// A layer under which a directory grants more than the other one.
@@ -501,7 +714,7 @@ fn uneven(richer: u64) -> Model {
 fn exchange_asks_both_containments() {
     refused(&uneven(2), exchange(0, 3, 2, 4), NotContained);
     refused(&uneven(1), exchange(0, 3, 2, 4), OtherNotContained);
-    assert_eq!(uneven(1).rename(0, 3, 2, Some(4)), Ok(0));
+    assert_eq!(uneven(1).rename(0, 3, 2, b"4"), Ok(0));
 }
 
 fn end(thread: u64) -> Call {

@@ -26,7 +26,7 @@ const UNASKED: Asked = [EXECUTE, 0, 0];
 const UNASKED_WITH_NET: Asked = [EXECUTE, 3, 0];
 const GRANTING: Asked = [EXECUTE | REFER, 0, 0];
 
-/// Directories 1 and 2, files 3 in 1 and 4 in 2, a directory 5 in 1; thread 0 has the layers, the
+/// Directories 1 and 2, files 3 in 1 and 4 in 2, a directory 5 in 1, each named by its number; thread 0 has the layers, the
 /// oldest first.
 fn under(layers: &[Asked]) -> Model {
     let mut model = Model::fresh(6);
@@ -37,8 +37,8 @@ fn under(layers: &[Asked]) -> Model {
         (2, REGULAR),
         (1, DIRECTORY),
     ];
-    for (directory, kind) in places {
-        model.create(0, directory, kind).unwrap();
+    for (name, (directory, kind)) in [b"1", b"2", b"3", b"4", b"5"].into_iter().zip(places) {
+        model.create(0, directory, kind, name).unwrap();
     }
     model.set_no_new_privs(0).unwrap();
     for masks in layers {
@@ -60,11 +60,10 @@ fn under(layers: &[Asked]) -> Model {
 /// directories.
 fn requests() -> [Call; 5] {
     let rename = |source| Call::Rename {
+        name: b"new".to_vec(),
         thread: 0,
         source,
         directory: 2,
-        replaces: 0,
-        entry: 0,
         report: REPORT,
     };
     [
@@ -75,6 +74,7 @@ fn requests() -> [Call; 5] {
             report: REPORT,
         },
         Call::Link {
+            name: b"new".to_vec(),
             thread: 0,
             source: 3,
             directory: 2,

@@ -26,8 +26,14 @@ const HANDLED: u64 = 8486;
 /// Document 01's tree: 1 /cal, 2 /import, 3 /cal/table, 4 /import/feed; thread 0 may restrict itself.
 fn tree() -> Model {
     let mut model = Model::fresh(6);
-    for (directory, kind) in [(0, DIRECTORY), (0, DIRECTORY), (1, REGULAR), (2, REGULAR)] {
-        model.create(0, directory, kind).unwrap();
+    let entries: [(u64, u64, &[u8]); 4] = [
+        (0, DIRECTORY, b"cal"),
+        (0, DIRECTORY, b"import"),
+        (1, REGULAR, b"table"),
+        (2, REGULAR, b"feed"),
+    ];
+    for (directory, kind, name) in entries {
+        model.create(0, directory, kind, name).unwrap();
     }
     model.set_no_new_privs(0).unwrap();
     model
@@ -80,6 +86,7 @@ fn port(port: u64, rights: u64) -> Call {
 
 fn create(directory: u64, kind: u64) -> Call {
     Call::Create {
+        name: b"new".to_vec(),
         thread: 0,
         directory,
         kind,
@@ -97,6 +104,7 @@ fn remove(entry: u64) -> Call {
 
 fn link(source: u64, directory: u64) -> Call {
     Call::Link {
+        name: b"new".to_vec(),
         thread: 0,
         source,
         directory,
@@ -104,13 +112,13 @@ fn link(source: u64, directory: u64) -> Call {
     }
 }
 
-fn rename(source: u64, directory: u64, replaced: Option<u64>) -> Call {
+/// Renames to the name of an entry, or to a free one.
+fn rename(source: u64, directory: u64, replaced: Option<&str>) -> Call {
     Call::Rename {
+        name: replaced.unwrap_or("new").as_bytes().to_vec(),
         thread: 0,
         source,
         directory,
-        replaces: replaced.is_some().into(),
-        entry: replaced.unwrap_or(0),
         report: REPORT,
     }
 }
@@ -156,10 +164,10 @@ fn the_worked_cases_of_document_01() {
     unnamed(&b, link(4, 1), 5);
 
     let mut moved = b.clone();
-    moved.rename(0, 4, 1, None).unwrap();
+    moved.rename(0, 4, 1, b"feed").unwrap();
     refused(&moved, access(4, WRITE), EACCES, 0, WRITE);
     let mut linked = b.clone();
-    linked.link(0, 4, 1).unwrap();
+    linked.link(0, 4, 1, b"feed").unwrap();
     refused(&linked, access(5, WRITE), EACCES, 0, WRITE);
     unnamed(&linked, access(4, WRITE), 0);
 
@@ -199,7 +207,7 @@ fn the_needs_of_both_directories_without_refer() {
     refused(&deny, rename(3, 2, None), EACCES, 0, REMOVE_FILE | MAKE_REG);
     refused(&deny, rename(1, 2, None), EACCES, 0, REMOVE_DIR | MAKE_DIR);
     let mixed = REMOVE_DIR | MAKE_DIR | REMOVE_FILE;
-    refused(&deny, rename(1, 2, Some(4)), EACCES, 0, mixed);
+    refused(&deny, rename(1, 2, Some("feed")), EACCES, 0, mixed);
     let all = REMOVE_FILE | MAKE_REG | REMOVE_DIR | MAKE_DIR;
     refused(&deny, exchange(3, 0, 2), EACCES, 0, all);
     // Removing is denied at the one, making at the other.
@@ -279,7 +287,7 @@ fn refer_or_what_fails_containment() {
 #[test]
 fn a_moved_directory_may_gain_any_right() {
     let mut model = tree();
-    assert_eq!(model.create(0, 2, DIRECTORY), Ok(5));
+    assert_eq!(model.create(0, 2, DIRECTORY, b"held"), Ok(5));
     let all = REFER | MAKE_DIR | REMOVE_DIR | READ | WRITE;
     let some = REFER | REMOVE_DIR | READ;
     restrict(&mut model, 0, all, 0, &[(1, all), (2, some)]);
@@ -320,7 +328,7 @@ fn other_refusals_name_no_layer() {
     // After the verdict.
     let grant = under(&[(EXECUTE, &[])]);
     unnamed(&grant, remove(1), returned(ENOTEMPTY));
-    unnamed(&grant, rename(1, 0, Some(2)), returned(ENOTEMPTY));
+    unnamed(&grant, rename(1, 0, Some("import")), returned(ENOTEMPTY));
     let mut unsound = encode(&deny);
     unsound.cells[0][0] = 7;
     for call in [access(3, READ), port(80, BIND), exchange(3, 2, 4)] {
@@ -341,9 +349,9 @@ fn reads(model: &Model, call: Call, number: u64, count: u64) {
 fn deep() -> Model {
     let mut model = Model::fresh(6);
     for directory in 0..4 {
-        model.create(0, directory, DIRECTORY).unwrap();
+        model.create(0, directory, DIRECTORY, b"below").unwrap();
     }
-    model.create(0, 4, REGULAR).unwrap();
+    model.create(0, 4, REGULAR, b"page").unwrap();
     model.set_no_new_privs(0).unwrap();
     model
 }

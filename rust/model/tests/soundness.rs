@@ -21,10 +21,12 @@ const LAYER: usize = Layers.width();
 /// Tables with two directories, a file of two links, rules, three layers and a thread with two.
 fn sample() -> Tables {
     let mut model = Model::fresh(6);
-    for (directory, kind) in [(0, 2), (1, 2), (2, 1)] {
-        model.create(0, directory, kind).unwrap();
+    let longest = [b'n'; 48];
+    let entries: [(u64, u64, &[u8]); 3] = [(0, 2, b"one"), (1, 2, &longest), (2, 1, b"file")];
+    for (directory, kind, name) in entries {
+        model.create(0, directory, kind, name).unwrap();
     }
-    model.link(0, 3, 1).unwrap();
+    model.link(0, 3, 1, b"file").unwrap();
     let fields = [Rights::ALL.without(Rights::REFER).0, 1, 0];
     let bytes: Vec<u8> = fields.into_iter().flat_map(u64::to_le_bytes).collect();
     model.create_ruleset(&bytes, 0).unwrap();
@@ -95,6 +97,69 @@ fn tree() {
     broken(LinksOfTwoKinds, &[(Entries, 3 * 4, 5)]);
     broken(LinkedDirectory, &[(Entries, 3 * 2 + 2, 1)]);
     broken(LinkedDirectory, &[(Entries, 3 * 2 + 2, 0)]);
+}
+
+/// The byte of a name's row.
+fn of_name(entry: usize, column: usize, value: u8) -> (Table, usize, u64) {
+    (Names, Names.width() * entry + column, value.into())
+}
+
+#[test]
+fn names() {
+    broken(NamedRoot, &[of_name(0, 0, 1)]);
+    broken(NamedRoot, &[of_name(0, 48, 1)]);
+    broken(NamedRoot, &[of_name(0, 0, 1), of_name(0, 1, b'/')]);
+    for entry in [5, 1023] {
+        broken(NameOfFreeEntry, &[of_name(entry, 0, 1)]);
+        broken(
+            NameOfFreeEntry,
+            &[of_name(entry, 0, 1), of_name(entry, 1, b'a')],
+        );
+        broken(NameOfFreeEntry, &[of_name(entry, 48, 255)]);
+    }
+    for length in [0, 49, 50, 255] {
+        broken(NameLength, &[of_name(1, 0, length)]);
+        broken(NameLength, &[of_name(2, 0, length)]);
+    }
+    broken(NamePadding, &[of_name(1, 0, 2)]);
+    broken(NamePadding, &[of_name(1, 4, b'a')]);
+    broken(NamePadding, &[of_name(1, 48, 1)]);
+    broken(NamePadding, &[of_name(2, 0, 47)]);
+    broken(NameWithZero, &[of_name(1, 0, 4)]);
+    for column in [1, 2, 3] {
+        broken(NameWithZero, &[of_name(1, column, 0)]);
+        broken(NameWithSlash, &[of_name(1, column, b'/')]);
+    }
+    broken(NameWithZero, &[of_name(2, 48, 0)]);
+    broken(NameWithSlash, &[of_name(2, 48, b'/')]);
+    let named = |length, bytes: [u8; 3]| {
+        let bytes = bytes.into_iter().zip(1..);
+        let bytes = bytes.map(|(byte, column)| of_name(1, column, byte));
+        bytes.chain([of_name(1, 0, length)]).collect::<Vec<_>>()
+    };
+    broken(NameOfDots, &named(1, *b".\0\0"));
+    broken(NameOfDots, &named(2, *b"..\0"));
+    harmless(&named(3, *b"..."));
+    harmless(&named(2, *b".a\0"));
+    harmless(&named(1, [255, 0, 0]));
+    harmless(&named(3, [1, 2, 3]));
+}
+
+/// Entry 4 "file" of directory 1 gets the name of entry 2 of that directory; 3 "file" is in 2.
+#[test]
+fn names_of_a_directory() {
+    let copied = |to: usize, from: u8| {
+        let cells = [(0, 48), (48, from)];
+        let name = (1..48).map(|column| (column, b'n'));
+        let cells = cells.into_iter().chain(name);
+        cells.map(move |(column, value)| of_name(to, column, value))
+    };
+    broken(NameTwice, &copied(4, b'n').collect::<Vec<_>>());
+    harmless(&copied(4, b'm').collect::<Vec<_>>());
+    harmless(&copied(1, b'n').collect::<Vec<_>>());
+    harmless(&copied(3, b'n').collect::<Vec<_>>());
+    // In one directory, both are "file".
+    broken(NameTwice, &[(Entries, 3 * 3 + 1, 1)]);
 }
 
 #[test]
@@ -252,7 +317,9 @@ fn deep_domains() {
 /// The sample with a table cut, or filled up with a value.
 fn resized(table: Table, length: usize, value: u64) -> Tables {
     let mut tables = sample();
-    tables.of_mut(table).resize(length, value);
+    let right = table.length();
+    tables.resize(table, length);
+    (right..length).for_each(|cell| tables.poke(table, cell, value));
     tables
 }
 
@@ -285,6 +352,7 @@ fn fresh_looks_at_lengths_alone() {
     for cells in &mut tables.cells {
         cells.fill(u64::MAX);
     }
+    tables.names.fill(u8::MAX);
     for level in [7, 1 << 63, u64::MAX] {
         for tables in [&tables, &sample()] {
             let number = Both::unchanging(tables, &Call::Fresh { level });

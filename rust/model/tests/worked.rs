@@ -1,4 +1,4 @@
-//! The worked cases of document 01, with the answer that request W3 amends.
+//! The worked cases of document 01, with the answer that request W3 amends; each entry keeps its name.
 
 use model::refusal::Errno::{self, *};
 use model::refusal::{Answer, Refusal};
@@ -14,10 +14,10 @@ const HANDLED: u64 = 8486;
 /// The worked tree: 1 /cal, 2 /import, 3 /cal/table, 4 /import/feed.
 fn tree() -> Model {
     let mut model = Model::fresh(6);
-    assert_eq!(model.create(0, 0, DIRECTORY), Ok(1));
-    assert_eq!(model.create(0, 0, DIRECTORY), Ok(2));
-    assert_eq!(model.create(0, 1, REGULAR), Ok(3));
-    assert_eq!(model.create(0, 2, REGULAR), Ok(4));
+    assert_eq!(model.create(0, 0, DIRECTORY, b"cal"), Ok(1));
+    assert_eq!(model.create(0, 0, DIRECTORY, b"import"), Ok(2));
+    assert_eq!(model.create(0, 1, REGULAR, b"table"), Ok(3));
+    assert_eq!(model.create(0, 2, REGULAR, b"feed"), Ok(4));
     assert_eq!(model.set_no_new_privs(0), Ok(0));
     model
 }
@@ -62,6 +62,12 @@ fn number(answer: Answer) -> Result<u64, Errno> {
     answer.map_err(Refusal::errno)
 }
 
+/// Request W1: "01's cases keep each entry's name."
+fn kept(model: &mut Model, source: u64, directory: u64) -> Answer {
+    let name = model.names.of(source).to_vec();
+    model.rename(0, source, directory, &name)
+}
+
 #[test]
 fn access_under_a() {
     assert_eq!(number(a().access(0, 3, READ)), Ok(0));
@@ -72,26 +78,27 @@ fn access_under_a() {
 
 #[test]
 fn renames_under_a_and_b() {
-    assert_eq!(number(a().rename(0, 4, 1, None)), Err(EACCES));
+    assert_eq!(number(kept(&mut a(), 4, 1)), Err(EACCES));
     let mut under_b = b();
-    assert_eq!(number(under_b.rename(0, 4, 1, None)), Ok(0));
+    assert_eq!(number(kept(&mut under_b, 4, 1)), Ok(0));
+    assert_eq!(under_b.lookup(b"/cal/feed"), Ok(4));
     assert_eq!(number(under_b.access(0, 4, WRITE)), Err(EACCES));
-    assert_eq!(number(b().rename(0, 3, 2, None)), Err(EACCES));
+    assert_eq!(number(kept(&mut b(), 3, 2)), Err(EACCES));
 }
 
 #[test]
 fn renames_under_c() {
-    assert_eq!(number(c().rename(0, 3, 2, None)), Err(EXDEV));
+    assert_eq!(number(kept(&mut c(), 3, 2)), Err(EXDEV));
     let mut model = tree();
     let rules = [(1, 8484), (2, HANDLED), (3, WRITE)];
     layer(&mut model, HANDLED, 0, &rules);
-    assert_eq!(number(model.rename(0, 3, 2, None)), Ok(0));
+    assert_eq!(number(kept(&mut model, 3, 2)), Ok(0));
 }
 
 #[test]
 fn link_under_b() {
     let mut model = b();
-    assert_eq!(number(model.link(0, 4, 1)), Ok(5));
+    assert_eq!(number(model.link(0, 4, 1, b"feed")), Ok(5));
     assert_eq!(number(model.access(0, 5, WRITE)), Err(EACCES));
     assert_eq!(number(model.access(0, 4, WRITE)), Ok(0));
 }
@@ -102,8 +109,8 @@ fn second_layer_that_handles_write() {
     layer(&mut model, WRITE, 0, &[]);
     assert_eq!(number(model.access(0, 4, READ)), Ok(0));
     assert_eq!(number(model.access(0, 4, WRITE)), Err(EACCES));
-    assert_eq!(number(model.clone().rename(0, 4, 1, None)), Err(EXDEV));
-    assert_eq!(number(model.rename(0, 4, 2, None)), Ok(0));
+    assert_eq!(number(kept(&mut model.clone(), 4, 1)), Err(EXDEV));
+    assert_eq!(number(kept(&mut model, 4, 2)), Ok(0));
 }
 
 /// Document 01 has EXDEV here; request W3: "The BIND_TCP case in 01 becomes 0".
@@ -111,7 +118,7 @@ fn second_layer_that_handles_write() {
 fn second_layer_that_handles_ports() {
     let mut model = b();
     layer(&mut model, 0, 1, &[]);
-    assert_eq!(number(model.rename(0, 4, 1, None)), Ok(0));
+    assert_eq!(number(kept(&mut model, 4, 1)), Ok(0));
 }
 
 #[test]

@@ -3,7 +3,7 @@ use crate::words::{one_of, quoted};
 use std::ffi::{OsStr, OsString};
 use std::io::IsTerminal;
 
-const COMMANDS: [&str; 3] = ["run", "explain", "demo"];
+const COMMANDS: [&str; 4] = ["run", "explain", "demo", "import"];
 const OPTIONS: [&str; 6] = [
     "--json",
     "--all-rights",
@@ -19,6 +19,7 @@ pub enum Command {
     Run(OsString),
     Explain(OsString),
     Demo,
+    Import(OsString),
     Help,
     Version,
 }
@@ -129,6 +130,9 @@ impl Words {
         if self.verbose && matches!(command, Command::Explain(_) | Command::Demo) {
             return Err("--verbose is for run".to_owned());
         }
+        if matches!(command, Command::Import(_)) && (self.json || self.all_rights || self.verbose) {
+            return Err("import takes no --json, --all-rights or --verbose".to_owned());
+        }
         Ok(Options {
             command,
             json: self.json,
@@ -143,14 +147,15 @@ fn command(plain: &[OsString]) -> Result<Command, String> {
     let Some((name, rest)) = plain.split_first() else {
         return Err(format!("a command is missing: {}", COMMANDS.join(", ")));
     };
-    let file = |make: fn(OsString) -> Command| match rest {
-        [file] => Ok(make(file.clone())),
-        [] => Err(format!("{} needs a FILE", name.to_string_lossy())),
+    let word = |what: &str, make: fn(OsString) -> Command| match rest {
+        [word] => Ok(make(word.clone())),
+        [] => Err(format!("{} needs a {what}", name.to_string_lossy())),
         [_, more, ..] => Err(too_many(more)),
     };
     match (name.to_str(), rest) {
-        (Some("run"), _) => file(Command::Run),
-        (Some("explain"), _) => file(Command::Explain),
+        (Some("run"), _) => word("FILE", Command::Run),
+        (Some("explain"), _) => word("FILE", Command::Explain),
+        (Some("import"), _) => word("DIRECTORY", Command::Import),
         (Some("demo"), []) => Ok(Command::Demo),
         (Some("demo"), [more, ..]) => Err(too_many(more)),
         _ => Err(unknown("command", &name.to_string_lossy(), &COMMANDS)),
@@ -197,6 +202,10 @@ mod tests {
     fn files_may_look_like_options() {
         assert_eq!(read("run -").unwrap().command, Command::Run("-".into()));
         assert_eq!(
+            read("import -- -d").unwrap().command,
+            Command::Import("-d".into())
+        );
+        assert_eq!(
             read("run -- -f").unwrap().command,
             Command::Run("-f".into())
         );
@@ -211,6 +220,11 @@ mod tests {
             "walk",
             "run a b",
             "demo a",
+            "import",
+            "import a b",
+            "import a --json",
+            "import a -v",
+            "import --all-rights a",
             "run --fast a",
             "run a --color",
             "run a --color blue",

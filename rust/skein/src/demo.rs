@@ -101,7 +101,7 @@ fn prepares(played: &Played) -> bool {
         Call::Tree { call, .. } => matches!(call, TreeCall::Create { .. }),
         Call::Thread { call, .. } => matches!(call, ThreadCall::SetNoNewPrivs),
         Call::Fresh { .. } => true,
-        Call::LayerRules { .. } | Call::Poke { .. } => false,
+        _ => false,
     };
     prepares && !matches!(played.answer, Answer::Refused(_)) && !played.differs()
 }

@@ -291,11 +291,17 @@ const CALLS: &[(&str, usize)] = &[
     ("port", 3),
     ("signal", 2),
     ("abstract_socket", 2),
-    ("create", 3),
+    ("create", 4),
     ("remove", 2),
-    ("link", 3),
+    ("link", 4),
     ("rename", 4),
     ("exchange", 4),
+    ("lookup", 1),
+    ("component", 2),
+    ("poke_name", 2),
+    ("poke_name", 3),
+    ("poke names", 2),
+    ("create main /1 2\nrename main /1", 2),
     ("poke threads", 2),
     ("poke threads", 5),
 ];
@@ -308,6 +314,7 @@ const NUMBERS: &[&str] = &[
     "1024",
     "0x8000000000000000",
     "0xffffffffffffffff",
+    "/1",
 ];
 
 /// Whole lines, so that most are read and reach the core.

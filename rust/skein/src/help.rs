@@ -6,6 +6,7 @@ pub const USAGE: &str = "\
 usage: skein run [--json] [--verbose] [--color WHEN] FILE
        skein explain [--json] [--all-rights] [--color WHEN] FILE
        skein demo [--json] [--all-rights] [--color WHEN]
+       skein import DIRECTORY
        skein --help | --version
 ";
 
@@ -28,6 +29,10 @@ Commands
            which and draws nothing.
   demo     shows document 01's worked tree as explain does, and plays its
            worked cases.
+  import   prints a scenario that builds the tree of a DIRECTORY of this
+           machine: kinds, names and hard links, but nothing of the files'
+           contents. At most 1,023 entries fit, with names of at most 48
+           bytes; if something does not fit, it says what and prints nothing.
 
 Options
   --json        one JSON document instead of text; docs/SCENARIO.md lists its
@@ -41,22 +46,28 @@ Options
   -V, --version the version
 
 Format (in full: docs/SCENARIO.md)
-  [repeat N] CALL ARGUMENT .. [-> NAME] [=> ANSWER [layer=N] [rights=RIGHTS]
-  [entries_read=N]]
+  [repeat N] CALL ARGUMENT .. [-> LABEL] [=> ANSWER [layer=N] [rights=RIGHTS]
+  [entries_read=N] [start=N] [length=N]]
   # a comment, to the end of the line
 
   repeat N makes the call N times, from 1 to 100,000, each with that answer.
-  -> NAME binds the number of what the call makes; not with repeat.
+  -> LABEL binds the number of what the call makes or finds; not with repeat.
   => ANSWER says what the call must answer: a number, new N, an error's name
   (EACCES) or its negated number (-13); ok for any success, new for any that
   makes something, any for any answer at all. Without => the call must succeed.
   layer=N and rights=RIGHTS say which layer must refuse and for which rights;
   none and none where no layer does. entries_read=N says how many entries'
-  rules an access must read.
+  rules an access must read, start=N and length=N which part of its path a
+  component must be.
 
   Tables start fresh at level 6. A number is decimal or hexadecimal (0x1f). An
-  entry, ruleset or thread (a TARGET too) is a number or a bound name; root is
-  entry 0, main is thread 0.
+  entry, ruleset or thread (a TARGET too) is a number or a bound label; root is
+  entry 0, main is thread 0. An entry may also be an absolute path, which is
+  looked up just before the call; one that is not found stands for an entry
+  that is not live.
+
+  A NAME or a PATH is any word, with \\xNN for a byte, \\\\ for a backslash, \\i
+  for the round of repeat and \\*N{TEXT} for N times a text; \"\" is empty.
 
     fresh LEVEL
     create_ruleset [fs=RIGHTS] [net=RIGHTS] [scope=RIGHTS] [size=N] [flags=N]
@@ -74,18 +85,29 @@ Format (in full: docs/SCENARIO.md)
     port THREAD PORT RIGHTS
     signal THREAD TARGET
     abstract_socket THREAD TARGET
-    create THREAD DIRECTORY KIND
+    create THREAD DIRECTORY KIND NAME
+    create THREAD PATH KIND
     remove THREAD ENTRY
-    link THREAD SOURCE DIRECTORY
-    rename THREAD SOURCE DIRECTORY [ENTRY]
+    link THREAD SOURCE DIRECTORY NAME
+    link THREAD SOURCE PATH
+    rename THREAD SOURCE DIRECTORY NAME
+    rename THREAD SOURCE PATH
     exchange THREAD SOURCE DIRECTORY ENTRY
+    exchange THREAD SOURCE PATH
+    lookup PATH
+    component PATH PLACE
+    poke_name ENTRY NAME [COUNT]
     poke TABLE CELL VALUE [COUNT STEP RISE]
 
   KIND: regular directory character block fifo socket symlink, or a number.
   ON: on, off or a number.
-  TABLE: system entries rulesets layers pool threads. COUNT, STEP and RISE make
-  a run of writes: how many, how many cells from one to the next, and how much
-  each value is above the last.
+  A PATH in place of a directory and a name, or of a directory and an entry:
+  its last component is the name or the entry, what stands before it the
+  directory.
+  TABLE: system entries rulesets layers pool threads names. COUNT, STEP and
+  RISE make a run of writes: how many, how many cells from one to the next, and
+  how much each value is above the last. poke_name writes the row of an entry's
+  name, or COUNT rows from there on, with \\i counting from 1.
 
 Rights: a number, none, or names joined by + in any letter case
   files   execute write_file read_file read_dir remove_dir remove_file
@@ -105,12 +127,12 @@ Exit codes
   64  wrong usage
 
 Example: a thread that may read a folder cannot write in it
-  create main root directory -> docs            => new 1
-  create main docs regular -> page              => new 2
+  create main /docs directory                   => new 1
+  create main /docs/page regular                => new 2
   create_ruleset fs=read_file+write_file -> rs  => new 0
-  add_path_rule rs docs read_file               => 0
+  add_path_rule rs /docs read_file              => 0
   set_no_new_privs main                         => 0
   restrict main rs                              => 0
-  access main page read_file                    => 0
-  access main page write_file                   => EACCES
+  access main /docs/page read_file              => 0
+  access main /docs/page write_file             => EACCES
 ";

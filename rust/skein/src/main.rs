@@ -15,6 +15,7 @@ mod demo;
 #[cfg(test)]
 mod fuzz;
 mod help;
+mod import;
 mod json;
 mod lines;
 mod messages;
@@ -27,7 +28,8 @@ mod words;
 
 use args::{Command, Options};
 use demo::Demo;
-use messages::{bad_lines, differing_lines, not_drawn};
+use import::NoImport;
+use messages::{bad_lines, differing_lines, no_room, not_drawn};
 use paint::Paint;
 use picture::Explained;
 use play::{play, Play};
@@ -105,6 +107,28 @@ fn perform(options: &Options) -> Outcome {
         Command::Run(file) => with_file(file, |name, play| view.run(name, play)),
         Command::Explain(file) => with_file(file, |name, play| view.explain(name, play)),
         Command::Demo => view.demo(),
+        Command::Import(directory) => import_tree(directory),
+    }
+}
+
+/// The tree of a directory as a scenario, or what is in the way.
+fn import_tree(directory: &OsStr) -> Outcome {
+    let name = directory.to_string_lossy();
+    match import::scenario(directory.as_ref()) {
+        Ok(output) => Outcome {
+            output,
+            ..Outcome::default()
+        },
+        Err(NoImport::Unreadable(path, error)) => Outcome {
+            messages: format!("skein: {}: {error}\n", escaped(&path.to_string_lossy())),
+            code: UNREADABLE,
+            ..Outcome::default()
+        },
+        Err(NoImport::NoRoom(lines)) => Outcome {
+            messages: no_room(&name, &lines),
+            code: BAD_INPUT,
+            ..Outcome::default()
+        },
     }
 }
 

@@ -51,3 +51,17 @@ pub fn not_drawn(name: &str) -> String {
     let remedy = "`=> any` lets a call answer anything";
     format!("skein: {}: {why}; {remedy}\n", escaped(name))
 }
+
+/// What is in the way of an import, the first ones where there are many.
+pub fn no_room(name: &str, lines: &[String]) -> String {
+    const MOST: usize = 20;
+    let shown = lines.iter().take(MOST);
+    let mut messages: String = shown
+        .map(|line| format!("skein: {}: {line}\n", escaped(name)))
+        .collect();
+    if lines.len() > MOST {
+        let more = counted(lines.len() - MOST, "more thing");
+        messages.push_str(&format!("skein: {}: {more} in the way\n", escaped(name)));
+    }
+    messages
+}

@@ -1,18 +1,20 @@
 //! Plays a scenario on the broker.
 use crate::scenario::{
-    Answer, Bad, BadLine, Call, Mask, Masks, Move, Names, Operand, Report, RulesetBytes,
-    RulesetCall, Scenario, Space, Statement, ThreadCall, TreeCall,
+    Answer, Bad, BadLine, Call, Mask, Masks, Names, Operand, Other, Place, Report, RulesetBytes,
+    RulesetCall, Scenario, Space, Statement, Text, ThreadCall, TreeCall,
 };
 use crate::words::quoted;
 use skeinrabbit::{
-    Attribute, Cells, Entry, Errno, Judged, Layer, Level, PortRights, Refusal, Rights, Rule,
-    Ruleset, Scopes, Table, Tables, Thread,
+    component_range, Attribute, Cells, Entry, Errno, Judged, Layer, Level, PortRights, Refusal,
+    Rights, Rule, Ruleset, Scopes, Table, Tables, Thread,
 };
 
 /// Tables and names as the lines so far left them.
 pub struct Player {
     pub tables: Tables,
     pub names: Names,
+    /// The round of the line that is played.
+    round: u64,
 }
 
 /// A line that was played.
@@ -26,6 +28,8 @@ pub struct Played<'s> {
     pub report: Option<Report>,
     /// The rules that `layer_rules` gave in it.
     pub rules: Vec<Rule>,
+    /// The part of its path that `component` gave in it.
+    pub part: Vec<u8>,
 }
 
 impl Played<'_> {
@@ -39,7 +43,7 @@ impl Played<'_> {
 pub struct Play<'s> {
     pub player: Player,
     pub played: Vec<Played<'s>>,
-    /// The line that ended the play early: it uses a name whose call was refused, or rights that the level does not know.
+    /// The line that ended the play early: it uses a label whose call was refused, or rights that the level does not know.
     pub stopped: Option<BadLine>,
 }
 
@@ -111,6 +115,7 @@ fn judged<R: Default>(result: Result<Answer, Refusal<R>>, mask: fn(R) -> Mask) -
             layer,
             rights: mask(rights),
             entries_read: None,
+            part: None,
         })
     };
     match result {
@@ -156,7 +161,11 @@ impl Player {
         // The level is one that there is; were it refused, every line would show EIO.
         let _ = tables.fresh(Level::LATEST);
         let names = Names::default();
-        Self { tables, names }
+        Self {
+            tables,
+            names,
+            round: 1,
+        }
     }
 
     /// Makes the call of a line as often as it says.
@@ -172,17 +181,24 @@ impl Player {
     }
 
     fn round<'s>(&mut self, statement: &'s Statement, round: u64) -> Result<Played<'s>, Bad> {
+        self.round = round;
         let mut rules = Vec::new();
+        let mut part = Vec::new();
         let (answer, report) = match &statement.call {
             Call::Fresh { level } => (done(self.tables.fresh(*level)), None),
             Call::Ruleset(call) => (self.ruleset_call(call)?, None),
             Call::LayerRules { layer } => (self.layer_rules(*layer, &mut rules), None),
             Call::Thread { thread, call } => self.thread_call(thread, call)?,
             Call::Tree { thread, call } => self.tree_call(thread, call)?,
+            Call::Lookup { path } => (self.lookup(path), None),
+            Call::Component { path, place } => self.component(path, *place, &mut part),
             Call::Poke { table, writes } => (self.poke(*table, writes), None),
+            Call::PokeName { first, count, name } => (self.poke_name(*first, *count, name), None),
         };
         self.names.forget_gone(&self.tables);
-        if let (Answer::New(number), Some((space, name))) = (answer, &statement.binds) {
+        if let (Answer::New(number) | Answer::Found(number), Some((space, name))) =
+            (answer, &statement.binds)
+        {
             self.names.bind(*space, name, number);
         }
         Ok(Played {
@@ -191,6 +207,7 @@ impl Player {
             answer,
             report,
             rules,
+            part,
         })
     }
 
@@ -272,43 +289,100 @@ impl Player {
     fn tree_call(&mut self, thread: &Operand, call: &TreeCall) -> Result<Said, Bad> {
         let thread = self.thread(thread)?;
         Ok(match call {
-            TreeCall::Create { directory, kind } => {
-                let directory = self.entry(directory)?;
-                made(self.tables.create(thread, directory, *kind))
+            TreeCall::Create { place, kind } => {
+                let (directory, name) = self.place(place)?;
+                made(self.tables.create(thread, directory, *kind, name))
             }
             TreeCall::Remove { entry } => {
                 let entry = self.entry(entry)?;
                 changed(self.tables.remove(thread, entry))
             }
-            TreeCall::Link(moved) => {
-                let (source, directory) = self.ends(moved)?;
-                made(self.tables.link(thread, source, directory))
+            TreeCall::Link { source, place } => {
+                let source = self.entry(source)?;
+                let (directory, name) = self.place(place)?;
+                made(self.tables.link(thread, source, directory, name))
             }
-            TreeCall::Rename(moved, replaced) => {
-                let (source, directory) = self.ends(moved)?;
-                let replaced = replaced
-                    .as_ref()
-                    .map(|entry| self.entry(entry))
-                    .transpose()?;
-                changed(self.tables.rename(thread, source, directory, replaced))
+            TreeCall::Rename { source, place } => {
+                let source = self.entry(source)?;
+                let (directory, name) = self.place(place)?;
+                changed(self.tables.rename(thread, source, directory, name))
             }
-            TreeCall::Exchange(moved, entry) => {
-                let (source, directory) = self.ends(moved)?;
-                let entry = self.entry(entry)?;
+            TreeCall::Exchange { source, other } => {
+                let source = self.entry(source)?;
+                let (directory, entry) = self.other(other)?;
                 changed(self.tables.exchange(thread, source, directory, entry))
             }
         })
     }
 
-    fn ends(&self, moved: &Move) -> Result<(Entry, Entry), Bad> {
-        Ok((self.entry(&moved.source)?, self.entry(&moved.directory)?))
+    /// The directory and the name that a line gives.
+    fn place(&self, place: &Place) -> Result<(Entry, Vec<u8>), Bad> {
+        Ok(match place {
+            Place::In { directory, name } => (self.entry(directory)?, name.bytes(self.round)),
+            Place::Path(path) => {
+                let path = path.bytes(self.round);
+                let (directory, name) = split(&path);
+                (self.found(directory), name.to_vec())
+            }
+        })
+    }
+
+    /// The directory and the entry that a line gives.
+    fn other(&self, other: &Other) -> Result<(Entry, Entry), Bad> {
+        Ok(match other {
+            Other::In { directory, entry } => (self.entry(directory)?, self.entry(entry)?),
+            Other::Path(path) => {
+                let path = path.bytes(self.round);
+                (self.found(split(&path).0), self.found(&path))
+            }
+        })
+    }
+
+    /// The entry of a path, or where there is none the number of one that is not live, so that the call itself is refused.
+    fn found(&self, path: &[u8]) -> Entry {
+        self.tables.lookup(path).unwrap_or(Entry::new(u64::MAX))
+    }
+
+    fn lookup(&self, path: &Text) -> Answer {
+        let entry = self.tables.lookup(path.bytes(self.round));
+        entry.map_or_else(Answer::Refused, |entry| Answer::Found(entry.number()))
+    }
+
+    fn component(&self, path: &Text, place: u64, part: &mut Vec<u8>) -> Said {
+        let path = path.bytes(self.round);
+        let place = usize::try_from(place).unwrap_or(usize::MAX);
+        let range = component_range(&path, place).unwrap_or(0..0);
+        let count = |number: usize| u64::try_from(number).unwrap_or(u64::MAX);
+        let report = Report {
+            layer: None,
+            rights: Mask::Files(Rights::NONE),
+            entries_read: None,
+            part: Some((count(range.start), count(range.len()))),
+        };
+        part.extend_from_slice(path.get(range).unwrap_or_default());
+        (Answer::Done, Some(report))
     }
 
     fn poke(&mut self, table: Table, writes: &[(usize, u64)]) -> Answer {
         let mut cells = self.tables.cells().clone();
         for (cell, value) in writes {
-            if let Some(cell) = cells.table_mut(table).get_mut(*cell) {
-                *cell = *value;
+            // The line was read with cells and values that fit.
+            cells.set(table, *cell, *value);
+        }
+        self.tables = Tables::from_cells(cells);
+        Answer::Done
+    }
+
+    fn poke_name(&mut self, first: u64, count: u64, name: &Text) -> Answer {
+        let rows = usize::try_from(first).unwrap_or(usize::MAX);
+        let mut cells = self.tables.cells().clone();
+        let rows = cells.names.chunks_exact_mut(NAME_WIDTH).skip(rows);
+        for (row, round) in rows.zip(1..=count) {
+            let name = name.bytes(round);
+            let length = u8::try_from(name.len()).unwrap_or(u8::MAX);
+            let bytes = std::iter::once(length).chain(name);
+            for (cell, byte) in row.iter_mut().zip(bytes.chain(std::iter::repeat(0))) {
+                *cell = byte;
             }
         }
         self.tables = Tables::from_cells(cells);
@@ -328,12 +402,31 @@ impl Player {
     }
 
     fn number(&self, space: Space, operand: &Operand) -> Result<u64, Bad> {
-        self.names.number(space, operand).map_err(|name| {
+        let name = match operand {
+            Operand::Number(number) => return Ok(*number),
+            Operand::Path(path) => return Ok(self.found(&path.bytes(self.round)).number()),
+            Operand::Name(name) => name,
+        };
+        self.names.number(space, name).ok_or_else(|| {
             let noun = space.noun();
             let found = format!("the {noun} {}, whose call was refused", quoted(name));
-            Bad::new(found, "a name that a successful call bound")
+            Bad::new(found, "a label that a successful call bound")
         })
     }
+}
+
+/// The bytes of a row of the names.
+const NAME_WIDTH: usize = 49;
+
+/// The path of the directory and the name behind the last slash of a path.
+fn split(path: &[u8]) -> (&[u8], &[u8]) {
+    let slash = |byte: &u8| *byte == b'/';
+    let start = path.iter().rposition(slash).map_or(0, |slash| slash + 1);
+    let (above, name) = path.split_at(start);
+    // Slashes that close the directory's path would ask for a directory.
+    let closing = above.iter().rev().take_while(|byte| slash(byte)).count();
+    let end = above.len().saturating_sub(closing).max(1);
+    (above.get(..end).unwrap_or(above), name)
 }
 
 /// The bytes of an attribute given by its masks: all of them, or as many as the line says.

@@ -3,8 +3,8 @@ use crate::json::Json;
 use crate::lines::{broken, Row};
 use crate::paint::Paint;
 use crate::play::{Play, Played};
-use crate::scenario::{Answer, Call, Mask, Report, RulesetCall, Space};
-use crate::words::shown;
+use crate::scenario::{written, Answer, Call, Mask, Report, RulesetCall, Space};
+use crate::words::{cut, shown};
 use skeinrabbit::{Errno, Layer, Rights, Rule};
 
 /// All calls, and how many answers differ; with more words, what each access read.
@@ -107,6 +107,8 @@ fn denial(played: &Played) -> Option<String> {
 
 /// How far a line that goes on is indented.
 const INDENT: usize = 4;
+/// The widest that a part of a path is shown.
+const WIDEST_PART: usize = 40;
 /// The widest column of answers. Wider ones have a line of their own.
 const WIDEST_ANSWER: usize = 24;
 
@@ -196,7 +198,17 @@ fn below(played: &Played) -> Vec<String> {
         denial(played)
     };
     let rules = played.rules.iter().map(rule_text);
-    why.into_iter().chain(rules).collect()
+    why.into_iter().chain(rules).chain(part(played)).collect()
+}
+
+/// The part of a path that a call gave, in words.
+fn part(played: &Played) -> Option<String> {
+    let (start, length) = played.report?.part?;
+    let part = cut(&written(&played.part), WIDEST_PART);
+    Some(match length {
+        0 => "no component".to_owned(),
+        _ => format!("start {start}, length {length}: {part}"),
+    })
 }
 
 /// The call and its arguments, with what is very long cut.
@@ -213,7 +225,9 @@ fn call_text(played: &Played, widest: usize) -> String {
 /// The answer, with the name that it is bound to.
 fn answer(played: &Played, widest: usize) -> String {
     let answer = match (played.answer, &played.statement.binds) {
-        (answer @ Answer::New(_), Some((_, name))) => format!("{answer} -> {name}"),
+        (answer @ (Answer::New(_) | Answer::Found(_)), Some((_, name))) => {
+            format!("{answer} -> {name}")
+        }
         (answer, _) => answer.to_string(),
     };
     shown(&answer, widest)
@@ -242,13 +256,13 @@ pub fn call_json(played: &Played) -> Json {
     let statement = played.statement;
     let (number, errno) = match played.answer {
         Answer::Done => (Some(0), None),
-        Answer::New(number) => (Some(number), None),
+        Answer::New(number) | Answer::Found(number) => (Some(number), None),
         Answer::Refused(errno) => (None, Some(errno)),
     };
     let (layer, rights) = named(played).unzip();
     let entries_read = played.report.and_then(|report| report.entries_read);
     let made = match (played.answer, &statement.binds) {
-        (Answer::New(_), Some((space, name))) => Some((*space, name.as_str())),
+        (Answer::New(_) | Answer::Found(_), Some((space, name))) => Some((*space, name.as_str())),
         _ => None,
     };
     Json::Object(vec![
@@ -278,6 +292,12 @@ pub fn call_json(played: &Played) -> Json {
         ),
         ("differs", Json::Bool(played.differs())),
         ("rules", Json::list(&played.rules, rule_json)),
+        (
+            "part",
+            Json::option(played.report.and_then(|report| report.part), |part| {
+                part_json(part, &played.part)
+            }),
+        ),
     ])
 }
 
@@ -298,6 +318,22 @@ fn bound_json((space, name): (Space, &str)) -> Json {
     Json::Object(vec![
         ("what", Json::text(space.noun())),
         ("name", Json::text(name)),
+    ])
+}
+
+/// A part of a path: where it starts, how long it is, and its bytes with the escapes of a scenario.
+fn part_json((start, length): (u64, u64), bytes: &[u8]) -> Json {
+    Json::Object(vec![
+        ("start", Json::Number(start)),
+        ("length", Json::Number(length)),
+        (
+            "text",
+            Json::text(if length == 0 {
+                String::new()
+            } else {
+                written(bytes)
+            }),
+        ),
     ])
 }
 

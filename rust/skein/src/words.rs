@@ -19,7 +19,8 @@ pub fn shown(text: &str, widest: usize) -> String {
     for c in text.chars() {
         let from = shown.len();
         match c {
-            '"' | '\'' => shown.push(c),
+            // A backslash is part of names and paths.
+            '"' | '\'' | '\\' => shown.push(c),
             // Letters that join the one before are printable too.
             c if c.is_alphanumeric() => shown.push(c),
             c => shown.extend(c.escape_debug()),
@@ -35,6 +36,15 @@ pub fn shown(text: &str, widest: usize) -> String {
         }
     }
     shown
+}
+
+/// A word that is printable as it is, cut where it is wider than `widest`.
+pub fn cut(word: &str, widest: usize) -> String {
+    if word.chars().count() <= widest {
+        return word.to_owned();
+    }
+    let kept = word.chars().take(widest.saturating_sub(1));
+    kept.chain(['…']).collect()
 }
 
 /// A word in quotes, escaped, and cut where it is very long.
@@ -102,7 +112,7 @@ mod tests {
             escaped("a\u{1b}[2J\n\r\t\0\u{202e}é\"'"),
             "a\\u{1b}[2J\\n\\r\\t\\0\\u{202e}é\"'"
         );
-        assert_eq!(quoted("a\\b"), "`a\\\\b`");
+        assert_eq!(quoted("a\\b"), "`a\\b`");
         assert_eq!(
             escaped("\u{915}\u{941} e\u{301}"),
             "\u{915}\u{941} e\\u{301}"

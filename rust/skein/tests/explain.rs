@@ -4,11 +4,11 @@ use support::{example, json, skein, skein_with, Value, EXAMPLES};
 
 /// Drawn by hand from document 01: layer B, with a hard link of the feed in /cal.
 const LINKED: &str = "\
-create main root directory -> cal
-create main root directory -> import
-create main cal regular -> table
-create main import regular -> feed
-link main feed cal
+create main /cal directory -> cal
+create main /import directory -> import
+create main /cal/table regular -> table
+create main /import/feed regular -> feed
+link main feed /cal/twin
 create_ruleset fs=8486 net=bind_tcp -> B
 add_path_rule B cal 8452
 add_path_rule B import 8486
@@ -25,10 +25,10 @@ thread main: layer 0; no_new_privs
                                       │ │ │ make_reg
                                       │ │ │ │ refer
 entry          no  kind       object  │ │ │ │ │
-root            0  directory  0       - - - - -
+/               0  directory  0       - - - - -
 ├─ cal          1  directory  1       - + - + +
 │  ├─ table     3  regular    3       - +
-│  └─ 5         5  regular    4 ×2    - +
+│  └─ twin      5  regular    4 ×2    - +
 └─ import       2  directory  2       + + + + +
    └─ feed      4  regular    4 ×2    + +
 
@@ -52,10 +52,10 @@ fn the_linked_tree_is_drawn_as_by_hand() {
 
 #[test]
 fn without_a_layer_nothing_is_denied() {
-    let ran = skein_with(&["explain", "-"], b"create main root fifo -> pipe\n");
+    let ran = skein_with(&["explain", "-"], b"create main /pipe fifo -> pipe\n");
     let expected = "\
 entry      no  kind       object
-root        0  directory  0
+/           0  directory  0
 └─ pipe     1  fifo       1
 
 No layer handles a right at entries: every thread may do everything there.
@@ -80,7 +80,7 @@ fn tables_that_are_not_sound_are_not_drawn() {
 
 /// Layer B's policy, whose restrict is refused: no mark is set.
 const UNRESTRICTED: &str = "\
-create main root directory -> cal
+create main /cal directory -> cal
 create_ruleset fs=8486 -> B
 add_path_rule B cal 8452
 restrict main B
@@ -129,7 +129,7 @@ fn each_line_that_differs_is_named_before_the_one_that_stops() {
     let message = "\
 -:1: `clone 9` must succeed, but answered ESRCH: no such thread
 -:2: `clone main` expected EAGAIN, but answered new 1
--:3: found the thread `t`, whose call was refused; expected a name that a
+-:3: found the thread `t`, whose call was refused; expected a label that a
     successful call bound
 ";
     let left = (ran.code, ran.out.as_str(), ran.err.as_str());
@@ -152,18 +152,18 @@ fn any_answer_of_any_kind_that_differs_keeps_the_picture_back() {
         let allowed = line.split(" =>").next().unwrap().to_owned() + " => any";
         let ran = skein_with(&["explain", "-"], allowed.as_bytes());
         assert_eq!((ran.code, ran.err.as_str()), (0, ""), "{allowed}");
-        assert!(ran.out.contains("root"), "{allowed}: {}", ran.out);
+        assert!(ran.out.contains("\n/ "), "{allowed}: {}", ran.out);
     }
 }
 
 #[test]
 fn names_of_what_is_gone_are_not_drawn() {
     let text = "\
-create main root fifo -> old
+create main /old fifo -> old
 remove main old
-create main root fifo
-create main root fifo -> twice
-create main root fifo -> twice
+create main /new fifo
+create main /once fifo -> twice
+create main /twice fifo -> twice
 clone main -> t
 ";
     let ran = skein_with(&["explain", "-", "--all-rights"], text.as_bytes());
@@ -174,6 +174,13 @@ clone main -> t
         "once in the picture of each thread"
     );
     assert!(ran.out.contains("└─ twice     3"), "{}", ran.out);
+    let document = json(&skein_with(&["explain", "-", "--json"], text.as_bytes()).out);
+    let entries = document.at("entries").list().iter();
+    let labels: Vec<&Value> = entries.map(|entry| entry.at("label")).collect();
+    let [_, Value::Null, Value::Null, Value::Text(twice)] = labels.as_slice() else {
+        panic!("{labels:?}");
+    };
+    assert_eq!(twice, "twice");
     assert!(ran.out.contains("thread t: no layer"));
 }
 
@@ -273,7 +280,14 @@ fn json_has_the_documented_fields() {
         .collect();
     assert_eq!(numbers, [0, 1, 3, 5, 2, 4]);
     assert_eq!(entries[0].at("parent"), &Value::Null);
-    assert_eq!(entries[3].at("name"), &Value::Null);
+    assert_eq!(entries[0].at("name"), &Value::Null);
+    assert_eq!(entries[0].at("path").text(), "/");
+    assert_eq!(entries[0].at("label").text(), "root");
+    assert_eq!(entries[2].at("name").text(), "table");
+    assert_eq!(entries[2].at("path").text(), "/cal/table");
+    assert_eq!(entries[2].at("label").text(), "table");
+    assert_eq!(entries[3].at("name").text(), "twin");
+    assert_eq!(entries[3].at("label"), &Value::Null);
     assert_eq!(entries[3].at("parent").number(), 1);
     assert_eq!(entries[3].at("object").number(), 4);
     assert_eq!(entries[3].at("links").number(), 2);
@@ -410,13 +424,13 @@ fn a_scope_that_no_layer_handles_is_not_shown() {
 
 #[test]
 fn pictures_fit_in_80_columns() {
-    let mut text = String::from("create main root directory -> d0\n");
+    let mut text = String::from("create main /d0 directory\n");
     for depth in 1..40 {
         let name = "n".repeat(depth);
-        text.push_str(&format!("create main {depth} directory -> {name}\n"));
+        text.push_str(&format!("create main {depth} directory {name}\n"));
     }
     text.push_str(
-        "poke system 1 4294967295\ncreate main root regular -> far\nlink main far 40 -> near\n",
+        "poke system 1 4294967295\ncreate main /far regular -> far\nlink main far 40 near\n",
     );
     text.push_str(
         "create_ruleset fs=0xffff net=3 scope=3 -> r\nset_admin main on\nset_no_new_privs main\n",

@@ -34,16 +34,16 @@ fn every_line_of_the_examples_expects_an_answer() {
 #[test]
 fn a_transcript_has_each_call_with_its_answer() {
     let text = "\
-create main root regular -> page => new 1
+create main /page regular -> page => new 1
 
 access  main\tpage 0x2 # write
 close_ruleset 3 => any
 ";
     let ran = skein_with(&["run", "-"], text.as_bytes());
     let expected = "\
-1  create main root regular  new 1 -> page  ok
-3  access main page 0x2      0
-4  close_ruleset 3           EBADF
+1  create main /page regular  new 1 -> page  ok
+3  access main page 0x2       0
+4  close_ruleset 3            EBADF
 3 calls, 1 expectation, 0 differing
 ";
     assert_eq!((ran.code, ran.out.as_str()), (0, expected));
@@ -160,20 +160,20 @@ fn each_expectation_of_the_incident_can_fail() {
 #[test]
 fn a_repeated_call_is_shown_once() {
     let text = "\
-repeat 3 create main root regular => new
+repeat 3 create main /f\\i regular => new
 repeat 2 clone main => new 1
 repeat 9 clone main
 repeat 2 clone main => EAGAIN
-create main root regular => new 4
+create main /f4 regular => new 4
 ";
     let ran = skein_with(&["run", "-"], text.as_bytes());
     let expected = "\
-1  repeat 3 create main root regular  new 3   ok
+1  repeat 3 create main /f\\i regular  new 3   ok
 2  repeat 2 clone main                new 2   DIFFERS: expected new 1 in round 2
 3  repeat 9 clone main                EAGAIN  DIFFERS: must succeed in round 6
        EAGAIN: no free thread
 4  repeat 2 clone main                EAGAIN  ok
-5  create main root regular           new 4   ok
+5  create main /f4 regular            new 4   ok
 5 calls, 4 expectations, 2 differing: lines 2, 3
 ";
     assert_eq!((ran.code, ran.out.as_str()), (1, expected));
@@ -218,8 +218,8 @@ fn a_layer_has_the_rules_of_its_ruleset() {
     let text = "\
 create_ruleset fs=6 -> r => new 0
 set_admin main on => 0
-create main root directory -> d => new 1
-create main root directory -> e => new 2
+create main /d directory -> d => new 1
+create main /e directory -> e => new 2
 add_path_rule r d 2 => 0
 add_path_rule r d 4 => 0
 restrict main r => 0
@@ -317,7 +317,7 @@ abstract_socket inner main
 
 #[test]
 fn json_has_the_documented_fields() {
-    let text = "create main root fifo -> p => new 1\nremove main p\nremove main p => 0\n";
+    let text = "create main /p fifo -> p => new 1\nremove main p\nremove main p => 0\n";
     let ran = skein_with(&["run", "-", "--json"], text.as_bytes());
     assert_eq!(ran.code, 1);
     let document = json(&ran.out);
@@ -330,7 +330,7 @@ fn json_has_the_documented_fields() {
     };
     assert_eq!(create.at("line").number(), 1);
     assert_eq!(create.at("call").text(), "create");
-    assert_eq!(create.at("text").text(), "create main root fifo");
+    assert_eq!(create.at("text").text(), "create main /p fifo");
     assert_eq!(create.at("answer").text(), "new 1");
     assert_eq!(create.at("number").number(), 1);
     assert_eq!(create.at("errno"), &Value::Null);
@@ -348,9 +348,9 @@ fn json_has_the_documented_fields() {
 
 /// Two folders and a file, and a layer 0 under which it may be read in both, and in the other also written.
 const LAYERED: &str = "\
-create main root directory -> docs => new 1
-create main root directory -> drafts => new 2
-create main docs regular -> page => new 3
+create main /docs directory -> docs => new 1
+create main /drafts directory -> drafts => new 2
+create main /docs/page regular -> page => new 3
 create_ruleset fs=read_file+write_file+make_reg+refer net=bind_tcp -> rs => new 0
 add_path_rule rs docs read_file+refer => 0
 add_path_rule rs drafts read_file+write_file+refer+make_reg => 0
@@ -364,10 +364,10 @@ fn a_refusal_says_which_layer_and_which_rights() {
         "{LAYERED}\
 access main page 6 => EACCES
 port main 80 3 => EACCES
-create main docs regular => EACCES
-link main page drafts => EXDEV
-rename main page root => EACCES layer=0
-rename main page drafts => EACCES
+create main /docs/new regular => EACCES
+link main page /drafts/page => EXDEV
+rename main page /page => EACCES layer=0
+rename main page /drafts/page => EACCES
 access main page read_file => 0
 "
     );
@@ -379,10 +379,13 @@ access main page read_file => 0
     };
     assert_eq!(after("access main page 6"), "layer 0 denies write_file");
     assert_eq!(after("port main 80 3"), "layer 0 denies bind_tcp");
-    assert_eq!(after("create main docs regular"), "layer 0 denies make_reg");
+    assert_eq!(
+        after("create main /docs/new regular"),
+        "layer 0 denies make_reg"
+    );
     let gained = "under layer 0 the move would gain write_file";
-    assert_eq!(after("link main page drafts"), gained);
-    assert_eq!(after("rename main page root"), "layer 0 denies make_reg");
+    assert_eq!(after("link main page /drafts/page"), gained);
+    assert_eq!(after("rename main page /page"), "layer 0 denies make_reg");
     let wrong = "EXDEV: under layer 0 the move would gain write_file";
     assert!(shown.contains(&wrong), "{}", ran.out);
     assert_eq!(ran.code, 1, "{}", ran.out);
@@ -414,12 +417,12 @@ fn a_line_pins_the_layer_and_the_rights() {
         ("port main 81 1", "EACCES rights=bind_tcp", true),
         ("port main 81 1", "EACCES rights=connect_tcp", false),
         (
-            "rename main page drafts",
+            "rename main page /drafts/page",
             "EXDEV layer=0 rights=write_file",
             true,
         ),
-        ("rename main page drafts", "EXDEV rights=refer", false),
-        ("create main drafts regular", "new 4 layer=none", true),
+        ("rename main page /drafts/page", "EXDEV rights=refer", false),
+        ("create main /drafts/new regular", "new 4 layer=none", true),
     ] {
         let text = format!("{LAYERED}{call} => {answer}\n");
         let ran = skein_with(&["run", "-"], text.as_bytes());
@@ -505,10 +508,10 @@ fn json_escapes_the_name_of_the_file() {
 #[test]
 fn names_keep_their_number() {
     let text = "\
-create main root regular -> x
+create main /x regular -> x
 remove main x
 access main x read_file => ENOENT
-create main root fifo => new 1
+create main /y fifo => new 1
 access main x read_file => 0
 fresh 6
 access main x read_file => ENOENT
@@ -521,12 +524,12 @@ access main x read_file => ENOENT
 fn the_last_free_entry_can_be_taken_and_no_more() {
     let mut text = String::new();
     for number in 1..=1023 {
-        text.push_str(&format!("create main root fifo => new {number}\n"));
+        text.push_str(&format!("create main /{number} fifo => new {number}\n"));
     }
-    text.push_str("create main root fifo => ENOSPC\nlink main 1 root => ENOSPC\n");
+    text.push_str("create main /x fifo => ENOSPC\nlink main 1 root x => ENOSPC\n");
     text.push_str("create_ruleset fs=make_fifo -> r\nset_admin main on\nrestrict main r\n");
-    text.push_str("create main root fifo => EACCES\nlink main 1 root => EACCES\n");
-    text.push_str("clone main -> t\nremove t 700 => 0\nclone t\ncreate main root 1 => new 700\n");
+    text.push_str("create main /x fifo => EACCES\nlink main 1 root x => EACCES\n");
+    text.push_str("clone main -> t\nremove t 700 => 0\nclone t\ncreate main /x 1 => new 700\n");
     let ran = skein_with(&["run", "-"], text.as_bytes());
     assert_eq!(ran.code, 0, "{}", ran.out);
 }
@@ -539,11 +542,12 @@ poke entries 3 2 3 3 0 => 0
 poke entries 4 0 3 3 1 => 0
 poke entries 5 1 3 3 1 => 0
 poke system 1 4 => 0
+poke_name 1 d\\i 3 => 0
 ";
     let calls = "\
-create main root directory => new 1
-create main 1 directory => new 2
-create main 2 directory => new 3
+create main /d1 directory => new 1
+create main /d1/d2 directory => new 2
+create main 2 directory d3 => new 3
 ";
     let [left, made] = [run, calls].map(|text| {
         let ran = skein_with(&["explain", "--json", "-"], text.as_bytes());
@@ -675,21 +679,21 @@ create_ruleset fs=4 size=18446744073709551615 => E2BIG
 #[test]
 fn long_calls_are_broken_into_lines() {
     let text = "\
-create main root directory -> a-rather-long-name-for-a-folder-of-calibration => new 1
+create main /calibration directory -> a-rather-long-name-for-a-folder-of-calibration => new 1
 create_ruleset fs=read_file+write_file+remove_file+make_reg+refer -> policy => new 0
 add_path_rule policy a-rather-long-name-for-a-folder-of-calibration 0x2104 => ENOENT
 clone main -> worker => new 1
 ";
     let ran = skein_with(&["run", "-"], text.as_bytes());
     let expected = "\
-1  create main root directory
+1  create main /calibration directory
        new 1 -> a-rather-long-name-for-a-folder-of-calibration
-                                                ok
+                                                        ok
 2  create_ruleset fs=read_file+write_file+remove_file+make_reg+refer
-                               new 0 -> policy  ok
+                                       new 0 -> policy  ok
 3  add_path_rule policy a-rather-long-name-for-a-folder-of-calibration 0x2104
-                               0                DIFFERS: expected ENOENT
-4  clone main                  new 1 -> worker  ok
+                                       0                DIFFERS: expected ENOENT
+4  clone main                          new 1 -> worker  ok
 4 calls, 4 expectations, 1 differing: line 3
 ";
     assert_eq!((ran.code, ran.out.as_str()), (1, expected), "\n{}", ran.out);
@@ -700,7 +704,7 @@ fn no_name_is_too_long() {
     for length in [60, 80, 65_535, 65_536, 1_000_000] {
         let name = "n".repeat(length);
         let text = format!(
-            "create main root directory -> {name}\ncreate main {name} fifo\nclone main -> {name}\n"
+            "create main /d directory -> {name}\ncreate main {name} fifo f\nclone main -> {name}\n"
         );
         for command in ["run", "explain"] {
             let ran = skein_with(&[command, "-"], text.as_bytes());
@@ -714,4 +718,81 @@ fn no_name_is_too_long() {
         let bound = document.at("calls").list()[0].at("bound").at("name").text();
         assert_eq!(bound, name, "JSON has it whole");
     }
+}
+
+/// Paths and labels for the same entries, and what a path that is not found stands for.
+#[test]
+fn paths_stand_for_entries() {
+    let text = "\
+create main /cal directory => new 1
+create main /import directory -> import => new 2
+create main /cal/table regular => new 3
+create main import regular feed -> feed => new 4
+lookup /cal/../import/./feed -> again => 4
+access main /import/feed read_file => 0
+access main again read_file => 0
+link main /import/feed /cal/twin => new 5
+rename main /cal/twin /import/twin => 0
+exchange main /cal/table /import/feed => 0
+lookup /cal/table => 4
+lookup /import/feed => 3
+exchange main 4 import 3 => 0
+remove main /import/twin => 0
+lookup /import/twin => ENOENT
+access main /import/twin read_file => ENOENT
+access main /cal/table/x read_file => ENOENT
+create main /none/new regular => ENOENT
+create main /cal/table/new regular => ENOTDIR
+create main //cal///new regular => new 5
+rename main /cal /cal/new/cal => ENOTDIR
+create main / regular => EINVAL
+create main /cal/ regular => EINVAL
+create main /cal/.. regular => EINVAL
+create_ruleset fs=read_file -> rs => new 0
+add_path_rule rs /cal read_file => 0
+add_path_rule rs /none read_file => EBADF
+repeat 3 create main /cal/\\i fifo => new
+lookup /cal/3 => 8
+poke names 0 1 => 0
+lookup / => EIO
+access main /cal read_dir => EIO
+";
+    let ran = skein_with(&["run", "-"], text.as_bytes());
+    assert_eq!(ran.code, 0, "{}{}", ran.out, ran.err);
+}
+
+#[test]
+fn a_component_is_shown_below_its_call() {
+    let text = "\
+component /cal//t\\x20b 2 => 0 start=6 length=3
+component /cal 1 => 0
+component /cal 2 => 0 start=0 length=0
+component // 0 => 0 length=1
+";
+    let ran = skein_with(&["run", "-"], text.as_bytes());
+    let expected = "\
+1  component /cal//t\\x20b 2  0  ok
+       start 6, length 3: t\\x20b
+2  component /cal 1          0  ok
+       start 1, length 3: cal
+3  component /cal 2          0  ok
+       no component
+4  component // 0            0  DIFFERS: expected 0 length=1
+       no component
+4 calls, 4 expectations, 1 differing: line 4
+";
+    assert_eq!((ran.code, ran.out.as_str()), (1, expected), "\n{}", ran.out);
+    let document = json(&skein_with(&["run", "--json", "-"], text.as_bytes()).out);
+    let calls = document.at("calls").list();
+    let part = calls[0].at("part");
+    assert_eq!(part.at("start").number(), 6);
+    assert_eq!(part.at("length").number(), 3);
+    assert_eq!(part.at("text").text(), "t\\x20b");
+    assert_eq!(calls[2].at("part").at("text").text(), "");
+    let document = json(&skein_with(&["run", "--json", "-"], b"lookup / -> top\n").out);
+    let lookup = &document.at("calls").list()[0];
+    assert_eq!(lookup.at("answer").text(), "0");
+    assert_eq!(lookup.at("number").number(), 0);
+    assert_eq!(lookup.at("bound").at("name").text(), "top");
+    assert_eq!(lookup.at("part"), &Value::Null);
 }

@@ -14,6 +14,10 @@ pub const MAX_POOL: usize = 1024;
 pub const MAX_THREADS: usize = 8;
 /// Layers of a thread's domain.
 pub const MAX_DOMAIN: usize = 64;
+/// Bytes of an entry's name.
+pub const MAX_NAME: usize = 48;
+/// Bytes of a path that is looked up.
+pub const MAX_PATH: usize = 4095;
 
 /// The cells of the only row of `system`.
 pub const SYSTEM_WIDTH: usize = 4;
@@ -24,8 +28,13 @@ pub const RULESET_WIDTH: usize = RULESET_HEAD + RULE_WIDTH * MAX_RULES;
 pub const LAYER_WIDTH: usize = 7;
 pub const RULE_WIDTH: usize = 3;
 pub const THREAD_WIDTH: usize = 4;
+/// The bytes of a row of `names`: the name's length, the name, zeros.
+pub const NAME_WIDTH: usize = 1 + MAX_NAME;
 
-/// The cells of a row of each table, in the order of the fields of [`Cells`](crate::Cells).
+/// The bytes of `names`, which has a row for each entry.
+pub const NAMES_SIZE: usize = NAME_WIDTH * MAX_ENTRIES;
+
+/// The cells of a row of each table but `names`, in the order of the fields of [`Cells`](crate::Cells).
 pub const WIDTHS: [usize; 6] = [
     SYSTEM_WIDTH,
     ENTRY_WIDTH,

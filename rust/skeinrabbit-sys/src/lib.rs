@@ -1,18 +1,19 @@
 //! The exported calls of the proved core, over slices of cells.
 //!
-//! Each call takes the six tables as they are, of any length and contents, tests them itself, and answers the success number
+//! Each call takes the seven tables as they are, of any length and contents, tests them itself, and answers the success number
 //! or 2^64 minus an error number. The crate `skeinrabbit` has a typed interface over these.
 //!
 //! Calls that say more than their number write a report, of any length: the cells that fit are written, with every answer, and
 //! cells past them stay. The report of a request about an entry or a port, or of a change of the tree, is the layer that refuses
-//! (its number + 1, or 0 for none) and its rights; behind these an access reports how many entries' rules it read.
+//! (its number + 1, or 0 for none) and its rights; behind these an access reports how many entries' rules it read. Only
+//! [`component`] takes no tables.
 #![no_std]
 
 pub mod layout;
 
-pub use layout::SIZES;
+pub use layout::{NAMES_SIZE, SIZES};
 
-/// The six tables, for the calls that may change them.
+/// The seven tables, for the calls that may change them.
 pub struct Cells<'a> {
     pub system: &'a mut [u64],
     pub entries: &'a mut [u64],
@@ -20,9 +21,10 @@ pub struct Cells<'a> {
     pub layers: &'a mut [u64],
     pub pool: &'a mut [u64],
     pub threads: &'a mut [u64],
+    pub names: &'a mut [u8],
 }
 
-/// The six tables, for the calls that change none.
+/// The seven tables, for the calls that change none.
 #[derive(Clone, Copy)]
 pub struct SharedCells<'a> {
     pub system: &'a [u64],
@@ -31,6 +33,7 @@ pub struct SharedCells<'a> {
     pub layers: &'a [u64],
     pub pool: &'a [u64],
     pub threads: &'a [u64],
+    pub names: &'a [u8],
 }
 
 impl Cells<'_> {
@@ -43,6 +46,7 @@ impl Cells<'_> {
             layers: self.layers,
             pool: self.pool,
             threads: self.threads,
+            names: self.names,
         }
     }
 }
@@ -63,7 +67,7 @@ macro_rules! call {
     (
         $(#[$doc:meta])*
         $name:ident($tables:ident: $bundle:ty $(, $arg:ident: $type:ty)*),
-        $export:ident[$system:tt $entries:tt $rulesets:tt $layers:tt $pool:tt $threads:tt]
+        $export:ident[$system:tt $entries:tt $rulesets:tt $layers:tt $pool:tt $threads:tt $names:tt]
         ($($value:expr => $raw:ty),*)
     ) => {
         extern "C" {
@@ -80,6 +84,8 @@ macro_rules! call {
                 pool_len: usize,
                 threads: *$threads u64,
                 threads_len: usize,
+                names: *$names u8,
+                names_len: usize,
                 $(_: $raw),*
             ) -> u64;
         }
@@ -102,6 +108,8 @@ macro_rules! call {
                     $tables.pool.len(),
                     pointer!($threads $tables.threads),
                     $tables.threads.len(),
+                    pointer!($names $tables.names),
+                    $tables.names.len(),
                     $($value),*
                 )
             }
@@ -139,69 +147,133 @@ macro_rules! reporting_calls {
 calls! {
     /// Fresh tables at a level.
     fresh(tables: &mut Cells, level),
-        skein_fresh[mut mut mut mut mut mut];
+        skein_fresh[mut mut mut mut mut mut mut];
     /// Closes a ruleset.
     close_ruleset(tables: &mut Cells, ruleset),
-        skein_close_ruleset[const const mut const const const];
+        skein_close_ruleset[const const mut const const const const];
     /// Adds a rule for an entry's object.
     add_path_rule(tables: &mut Cells, ruleset, entry, rights, flags),
-        skein_add_path_rule[const const mut const const const];
+        skein_add_path_rule[const const mut const const const const];
     /// Adds a rule for a port.
     add_port_rule(tables: &mut Cells, ruleset, port, rights, flags),
-        skein_add_port_rule[const const mut const const const];
+        skein_add_port_rule[const const mut const const const const];
     /// Gives a thread a layer made of a ruleset.
     restrict(tables: &mut Cells, thread, ruleset, flags),
-        skein_restrict[mut const const mut mut mut];
+        skein_restrict[mut const const mut mut mut const];
     /// Clones a thread; answers the new thread.
     clone(tables: &mut Cells, thread),
-        skein_clone[const const const mut const mut];
+        skein_clone[const const const mut const mut const];
     /// Ends a thread; layers that no live thread reaches any more are given back.
     end(tables: &mut Cells, thread),
-        skein_end[mut const const mut mut mut];
+        skein_end[mut const const mut mut mut const];
     /// Sets a thread's no_new_privs mark.
     set_no_new_privs(tables: &mut Cells, thread),
-        skein_set_no_new_privs[const const const const const mut];
+        skein_set_no_new_privs[const const const const const mut const];
     /// Sets a thread's admin mark, or clears it where `on` is 0.
     set_admin(tables: &mut Cells, thread, on),
-        skein_set_admin[const const const const const mut];
+        skein_set_admin[const const const const const mut const];
     /// Whether a thread may signal a thread.
     signal(tables: SharedCells, thread, target),
-        skein_signal[const const const const const const];
+        skein_signal[const const const const const const const];
     /// Whether a thread may reach a thread's abstract UNIX socket.
     abstract_socket(tables: SharedCells, thread, target),
-        skein_abstract_socket[const const const const const const];
+        skein_abstract_socket[const const const const const const const];
 }
 
 reporting_calls! {
     /// Where a layer's rules stand in the pool. Reports the first cell and the number of cells; zeros with a refusal.
     layer_rules(tables: SharedCells, layer),
-        skein_layer_rules[const const const const const const];
+        skein_layer_rules[const const const const const const const];
     /// Whether a thread may use an entry with the rights.
     access(tables: SharedCells, thread, entry, rights),
-        skein_access[const const const const const const];
+        skein_access[const const const const const const const];
     /// Whether a thread may use a port with the rights.
     port(tables: SharedCells, thread, port, rights),
-        skein_port[const const const const const const];
-    /// Creates an entry of a kind in a directory; answers its number.
-    create(tables: &mut Cells, thread, directory, kind),
-        skein_create[mut mut const const const const];
+        skein_port[const const const const const const const];
     /// Removes an entry.
     remove(tables: &mut Cells, thread, entry),
-        skein_remove[const mut const const const const];
-    /// Links an entry into a directory; answers the new entry.
-    link(tables: &mut Cells, thread, source, directory),
-        skein_link[const mut const const const const];
-    /// Moves an entry to a directory, in place of `entry` where `replaces` is not 0.
-    rename(tables: &mut Cells, thread, source, directory, replaces, entry),
-        skein_rename[const mut const const const const];
+        skein_remove[const mut const const const const mut];
     /// Exchanges an entry with an entry of a directory.
     exchange(tables: &mut Cells, thread, source, directory, entry),
-        skein_exchange[const mut const const const const];
+        skein_exchange[const mut const const const const mut];
 }
 
 call! {
     /// Opens a ruleset from the bytes of its attribute; answers its number.
     create_ruleset(tables: &mut Cells, bytes: &[u8], flags: u64),
-    skein_create_ruleset[const const mut const const const]
+    skein_create_ruleset[const const mut const const const const]
     (bytes.as_ptr() => *const u8, bytes.len() => usize, flags => u64)
+}
+
+call! {
+    /// Creates an entry of a kind in a directory, with a name; answers its number.
+    create(tables: &mut Cells, thread: u64, directory: u64, kind: u64, name: &[u8], report: &mut [u64]),
+    skein_create[mut mut const const const const mut]
+    (
+        thread => u64,
+        directory => u64,
+        kind => u64,
+        name.as_ptr() => *const u8,
+        name.len() => usize,
+        report.as_mut_ptr() => *mut u64,
+        report.len() => usize
+    )
+}
+
+/// The calls that put an entry into a directory, with a name.
+macro_rules! moving_calls {
+    ($($(#[$doc:meta])* $name:ident, $export:ident $access:tt;)*) => {
+        $(call! {
+            $(#[$doc])*
+            $name(tables: &mut Cells, thread: u64, source: u64, directory: u64, name: &[u8], report: &mut [u64]),
+            $export $access
+            (
+                thread => u64,
+                source => u64,
+                directory => u64,
+                name.as_ptr() => *const u8,
+                name.len() => usize,
+                report.as_mut_ptr() => *mut u64,
+                report.len() => usize
+            )
+        })*
+    };
+}
+
+moving_calls! {
+    /// Links an entry into a directory, with a name; answers the new entry.
+    link, skein_link[const mut const const const const mut];
+    /// Moves an entry to a directory and gives it a name, in place of the entry that bears it there.
+    rename, skein_rename[const mut const const const const mut];
+}
+
+call! {
+    /// Looks an absolute path up; answers the entry's number.
+    lookup(tables: SharedCells, path: &[u8]),
+    skein_lookup[const const const const const const const]
+    (path.as_ptr() => *const u8, path.len() => usize)
+}
+
+/// Where the first component of a path starts that starts at or after a place. Reports its start and its length; zeros where
+/// there is none.
+pub fn component(path: &[u8], place: u64, report: &mut [u64]) -> u64 {
+    extern "C" {
+        fn skein_component(
+            path: *const u8,
+            path_len: usize,
+            place: u64,
+            report: *mut u64,
+            report_len: usize,
+        ) -> u64;
+    }
+    // As for the other calls; the path and the report cannot overlap.
+    unsafe {
+        skein_component(
+            path.as_ptr(),
+            path.len(),
+            place,
+            report.as_mut_ptr(),
+            report.len(),
+        )
+    }
 }

@@ -1,5 +1,8 @@
 //! The calls that change nothing, on tables in memory that cannot be written: a write would end the program.
-use skeinrabbit_sys::{abstract_socket, access, layer_rules, port, signal, SharedCells, SIZES};
+use skeinrabbit_sys::{
+    abstract_socket, access, component, layer_rules, lookup, port, signal, SharedCells, NAMES_SIZE,
+    SIZES,
+};
 
 const fn cells<const N: usize>(first: [u64; 4]) -> [u64; N] {
     let mut cells = [0; N];
@@ -17,6 +20,7 @@ static RULESETS: [u64; SIZES[2]] = cells([0; 4]);
 static LAYERS: [u64; SIZES[3]] = cells([0; 4]);
 static POOL: [u64; SIZES[4]] = cells([0; 4]);
 static THREADS: [u64; SIZES[5]] = cells([1, 0, 0, 0]);
+static NAMES: [u8; NAMES_SIZE] = [0; NAMES_SIZE];
 
 /// The cells of fresh tables at level 6.
 const FRESH: SharedCells = SharedCells {
@@ -26,8 +30,10 @@ const FRESH: SharedCells = SharedCells {
     layers: &LAYERS,
     pool: &POOL,
     threads: &THREADS,
+    names: &NAMES,
 };
 
+const ENOENT: u64 = 2u64.wrapping_neg();
 const ESRCH: u64 = 3u64.wrapping_neg();
 const EIO: u64 = 5u64.wrapping_neg();
 const EBADF: u64 = 9u64.wrapping_neg();
@@ -38,6 +44,9 @@ fn requests_write_no_cell() {
     assert_eq!(access(FRESH, 1, 0, 8, &mut []), ESRCH);
     assert_eq!(port(FRESH, 0, 80, 1, &mut []), 0);
     assert_eq!(layer_rules(FRESH, 0, &mut []), EBADF);
+    assert_eq!(lookup(FRESH, b"/"), 0);
+    assert_eq!(lookup(FRESH, b"/cal"), ENOENT);
+    assert_eq!(lookup(FRESH, b""), ENOENT);
     for reach in [signal, abstract_socket] {
         assert_eq!(reach(FRESH, 0, 0), 0);
         assert_eq!(reach(FRESH, 1, 0), ESRCH);
@@ -50,10 +59,11 @@ type Reporting = fn(&mut [u64]) -> u64;
 
 #[test]
 fn reports_have_any_length() {
-    let calls: [(Reporting, u64); 3] = [
+    let calls: [(Reporting, u64); 4] = [
         (|report| access(FRESH, 0, 0, 8, report), 0),
         (|report| port(FRESH, 1, 80, 1, report), ESRCH),
         (|report| layer_rules(FRESH, 0, report), EBADF),
+        (|report| component(b"//", 0, report), 0),
     ];
     for (call, answer) in calls {
         for (length, left) in [(0, [7; 5]), (1, [0, 7, 7, 7, 7]), (2, [0, 0, 7, 7, 7])] {
@@ -70,14 +80,37 @@ fn reports_have_any_length() {
 }
 
 #[test]
+fn a_component_is_a_part_of_the_path() {
+    for (path, place, part) in [
+        (&b"/cal/table"[..], 0, [1, 3]),
+        (b"/cal/table", 1, [1, 3]),
+        (b"/cal/table", 2, [5, 5]),
+        (b"/cal/table", 6, [0, 0]),
+        (b"/cal/table", u64::MAX, [0, 0]),
+        (b"", 0, [0, 0]),
+    ] {
+        let mut report = [7; 3];
+        assert_eq!(component(path, place, &mut report), 0);
+        assert_eq!(report, [part[0], part[1], 7]);
+    }
+}
+
+#[test]
 fn tables_of_any_length_are_read() {
-    let short = SharedCells {
+    let no_entries = SharedCells {
         entries: &[],
         ..FRESH
     };
-    assert_eq!(access(short, 0, 0, 8, &mut []), EIO);
-    assert_eq!(port(short, 0, 80, 1, &mut []), EIO);
-    assert_eq!(layer_rules(short, 0, &mut []), EIO);
-    assert_eq!(signal(short, 0, 0), EIO);
-    assert_eq!(abstract_socket(short, 0, 0), EIO);
+    let no_names = SharedCells {
+        names: &[],
+        ..FRESH
+    };
+    for short in [no_entries, no_names] {
+        assert_eq!(access(short, 0, 0, 8, &mut []), EIO);
+        assert_eq!(port(short, 0, 80, 1, &mut []), EIO);
+        assert_eq!(layer_rules(short, 0, &mut []), EIO);
+        assert_eq!(lookup(short, b"/"), EIO);
+        assert_eq!(signal(short, 0, 0), EIO);
+        assert_eq!(abstract_socket(short, 0, 0), EIO);
+    }
 }

@@ -3,8 +3,8 @@ use skeinrabbit::{AccessFs, Entry, Errno, Kind, Level, Refusal, Tables, Thread};
 fn main() -> Result<(), Errno> {
     let level = Level::LATEST;
     let mut tables = Tables::new(level)?;
-    let cal = tables.create(Thread::MAIN, Entry::ROOT, Kind::DIRECTORY)?;
-    let table = tables.create(Thread::MAIN, cal, Kind::REGULAR)?;
+    let cal = tables.create(Thread::MAIN, Entry::ROOT, Kind::DIRECTORY, "cal")?;
+    let table = tables.create(Thread::MAIN, cal, Kind::REGULAR, "table")?;
 
     tables.set_no_new_privs(Thread::MAIN)?;
     let layer = tables

@@ -1,11 +1,11 @@
-//! The cells of the six tables.
+//! The cells of the seven tables.
 use crate::text::ParseError;
 use alloc::boxed::Box;
 use core::fmt;
 use core::str::FromStr;
-use skeinrabbit_sys::{self as sys, SIZES};
+use skeinrabbit_sys::{self as sys, NAMES_SIZE, SIZES};
 
-/// The cells of the six tables, each of its right length and with any contents.
+/// The cells of the seven tables, each of its right length and with any contents.
 ///
 /// Row `i` of a table with rows of `w` cells starts at cell `w * i`.
 #[derive(Clone, PartialEq, Eq)]
@@ -23,6 +23,8 @@ pub struct Cells {
     pub pool: Box<[u64; SIZES[4]]>,
     /// 8 rows: live, youngest layer + 1, no_new_privs, admin.
     pub threads: Box<[u64; SIZES[5]]>,
+    /// 1,024 rows of 49 bytes, one for each entry: length of its name, the name, zeros.
+    pub names: Box<[u8; NAMES_SIZE]>,
 }
 
 impl Cells {
@@ -35,38 +37,55 @@ impl Cells {
             layers: Box::new([0; SIZES[3]]),
             pool: Box::new([0; SIZES[4]]),
             threads: Box::new([0; SIZES[5]]),
+            names: Box::new([0; NAMES_SIZE]),
         }
     }
 
-    /// The cells of a table.
-    pub fn table(&self, table: Table) -> &[u64] {
+    /// A cell of a table, if the table has it.
+    ///
+    /// ```
+    /// # use skeinrabbit::*;
+    /// let tables = Tables::new(Level::LATEST)?;
+    /// assert_eq!(tables.cells().get(Table::System, 0), Some(6));
+    /// assert_eq!(tables.cells().get(Table::System, 4), None);
+    /// # Ok::<(), Errno>(())
+    /// ```
+    pub fn get(&self, table: Table, cell: usize) -> Option<u64> {
         match table {
-            Table::System => self.system.as_slice(),
-            Table::Entries => self.entries.as_slice(),
-            Table::Rulesets => self.rulesets.as_slice(),
-            Table::Layers => self.layers.as_slice(),
-            Table::Pool => self.pool.as_slice(),
-            Table::Threads => self.threads.as_slice(),
+            Table::System => self.system.get(cell).copied(),
+            Table::Entries => self.entries.get(cell).copied(),
+            Table::Rulesets => self.rulesets.get(cell).copied(),
+            Table::Layers => self.layers.get(cell).copied(),
+            Table::Pool => self.pool.get(cell).copied(),
+            Table::Threads => self.threads.get(cell).copied(),
+            Table::Names => self.names.get(cell).copied().map(u64::from),
         }
     }
 
-    /// The cells of a table, to be written.
-    pub fn table_mut(&mut self, table: Table) -> &mut [u64] {
-        match table {
+    /// Writes a cell of a table, if the table has it and it can hold the value: a cell of the names is a byte. Answers whether it
+    /// did.
+    ///
+    /// ```
+    /// # use skeinrabbit::*;
+    /// let mut cells = Cells::zeroed();
+    /// assert!(cells.set(Table::Names, 49, 255));
+    /// assert!(!cells.set(Table::Names, 49, 256));
+    /// assert_eq!(cells.get(Table::Names, 49), Some(255));
+    /// ```
+    pub fn set(&mut self, table: Table, cell: usize, value: u64) -> bool {
+        let words: &mut [u64] = match table {
             Table::System => self.system.as_mut_slice(),
             Table::Entries => self.entries.as_mut_slice(),
             Table::Rulesets => self.rulesets.as_mut_slice(),
             Table::Layers => self.layers.as_mut_slice(),
             Table::Pool => self.pool.as_mut_slice(),
             Table::Threads => self.threads.as_mut_slice(),
-        }
-    }
-
-    /// A row of `W` cells, if the table has it.
-    pub(crate) fn row<const W: usize>(&self, table: Table, number: u64) -> Option<[u64; W]> {
-        let start = usize::try_from(number).ok()?.checked_mul(W)?;
-        let cells = self.table(table).get(start..start.checked_add(W)?)?;
-        cells.try_into().ok()
+            Table::Names => {
+                let byte = u8::try_from(value).ok();
+                return replace(self.names.get_mut(cell), byte);
+            }
+        };
+        replace(words.get_mut(cell), Some(value))
     }
 
     /// The cells, for the core to read.
@@ -78,6 +97,7 @@ impl Cells {
             layers: self.layers.as_slice(),
             pool: self.pool.as_slice(),
             threads: self.threads.as_slice(),
+            names: self.names.as_slice(),
         }
     }
 
@@ -90,8 +110,27 @@ impl Cells {
             layers: self.layers.as_mut_slice(),
             pool: self.pool.as_mut_slice(),
             threads: self.threads.as_mut_slice(),
+            names: self.names.as_mut_slice(),
         }
     }
+}
+
+/// Writes a value where there is a cell for it and it fits.
+fn replace<T>(cell: Option<&mut T>, value: Option<T>) -> bool {
+    match (cell, value) {
+        (Some(cell), Some(value)) => {
+            *cell = value;
+            true
+        }
+        _ => false,
+    }
+}
+
+/// A row of `W` cells, if the table has it.
+pub(crate) fn row<const W: usize>(table: &[u64], number: u64) -> Option<[u64; W]> {
+    let start = usize::try_from(number).ok()?.checked_mul(W)?;
+    let cells = table.get(start..start.checked_add(W)?)?;
+    cells.try_into().ok()
 }
 
 /// The number of cells that are not 0, table by table: the cells themselves would fill pages.
@@ -99,14 +138,14 @@ impl fmt::Debug for Cells {
     fn fmt(&self, f: &mut fmt::Formatter<'_>) -> fmt::Result {
         let mut counts = f.debug_struct("Cells");
         for table in Table::ALL {
-            let used = self.table(table).iter().filter(|cell| **cell != 0).count();
-            counts.field(table.name(), &used);
+            let used = (0..table.size()).filter(|cell| self.get(table, *cell) != Some(0));
+            counts.field(table.name(), &used.count());
         }
         counts.finish()
     }
 }
 
-/// One of the six tables.
+/// One of the seven tables.
 #[derive(Clone, Copy, Debug, PartialEq, Eq)]
 pub enum Table {
     /// Level and counters.
@@ -121,17 +160,20 @@ pub enum Table {
     Pool,
     /// The threads.
     Threads,
+    /// The names of the entries, in bytes.
+    Names,
 }
 
 impl Table {
-    /// The six tables, in their order.
-    pub const ALL: [Table; 6] = [
+    /// The seven tables, in their order.
+    pub const ALL: [Table; 7] = [
         Table::System,
         Table::Entries,
         Table::Rulesets,
         Table::Layers,
         Table::Pool,
         Table::Threads,
+        Table::Names,
     ];
 
     /// The name.
@@ -143,10 +185,11 @@ impl Table {
             Table::Layers => "layers",
             Table::Pool => "pool",
             Table::Threads => "threads",
+            Table::Names => "names",
         }
     }
 
-    /// The number of cells.
+    /// The number of cells; those of the names are bytes.
     pub fn size(self) -> usize {
         match self {
             Table::System => SIZES[0],
@@ -155,6 +198,7 @@ impl Table {
             Table::Layers => SIZES[3],
             Table::Pool => SIZES[4],
             Table::Threads => SIZES[5],
+            Table::Names => NAMES_SIZE,
         }
     }
 }
@@ -168,7 +212,7 @@ impl FromStr for Table {
         named.ok_or_else(|| {
             ParseError::new(
                 text,
-                "a table: system, entries, rulesets, layers, pool or threads",
+                "a table: system, entries, rulesets, layers, pool, threads or names",
             )
         })
     }

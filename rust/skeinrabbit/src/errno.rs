@@ -61,12 +61,14 @@ errnos! {
     ENOMEM = 12, "no room for a layer";
     EACCES = 13, "a layer denies the access";
     EBUSY = 16, "the root, or the only live thread";
+    EEXIST = 17, "the directory has an entry of that name";
     EXDEV = 18, "rights would widen, or REFER is denied";
     ENOTDIR = 20, "not a directory";
     EISDIR = 21, "a directory";
     EINVAL = 22, "invalid argument";
     EMFILE = 24, "no free ruleset";
     ENOSPC = 28, "no free entry or object number";
+    ENAMETOOLONG = 36, "a name or a path is too long";
     ENOTEMPTY = 39, "directory not empty";
     ENOMSG = 42, "empty set of rights";
     EOPNOTSUPP = 95, "Landlock is disabled";
@@ -147,7 +149,7 @@ mod tests {
             assert_eq!(errno.to_string().parse(), Ok(*errno));
             assert_eq!(format!("-{}", errno.number()).parse(), Ok(*errno));
         }
-        assert_eq!(Errno::ALL.len(), 19);
+        assert_eq!(Errno::ALL.len(), 21);
     }
 
     #[test]

@@ -16,8 +16,8 @@
 //!
 //! let level = Level::LATEST;
 //! let mut tables = Tables::new(level)?;
-//! let docs = tables.create(Thread::MAIN, Entry::ROOT, Kind::DIRECTORY)?;
-//! let page = tables.create(Thread::MAIN, docs, Kind::REGULAR)?;
+//! let docs = tables.create(Thread::MAIN, Entry::ROOT, Kind::DIRECTORY, "docs")?;
+//! let page = tables.create(Thread::MAIN, docs, Kind::REGULAR, "page")?;
 //!
 //! let worker = tables.clone_thread(Thread::MAIN)?;
 //! tables.set_no_new_privs(worker)?;
@@ -51,9 +51,9 @@
 //! use skeinrabbit::{AccessFs, Entry, Errno, Kind, Level, Refusal, Tables, Thread};
 //!
 //! let mut tables = Tables::new(Level::LATEST)?;
-//! let cal = tables.create(Thread::MAIN, Entry::ROOT, Kind::DIRECTORY)?;
-//! let import = tables.create(Thread::MAIN, Entry::ROOT, Kind::DIRECTORY)?;
-//! let table = tables.create(Thread::MAIN, cal, Kind::REGULAR)?;
+//! let cal = tables.create(Thread::MAIN, Entry::ROOT, Kind::DIRECTORY, "cal")?;
+//! let import = tables.create(Thread::MAIN, Entry::ROOT, Kind::DIRECTORY, "import")?;
+//! let table = tables.create(Thread::MAIN, cal, Kind::REGULAR, "table")?;
 //!
 //! let plugin = tables.clone_thread(Thread::MAIN)?;
 //! tables.set_no_new_privs(plugin)?;
@@ -68,7 +68,7 @@
 //!
 //! let denied = |rights| Err(Refusal::Denied { layer, rights });
 //! assert_eq!(tables.access(plugin, table, AccessFs::WRITE_FILE), denied(AccessFs::WRITE_FILE));
-//! assert_eq!(tables.rename(plugin, table, import, None), denied(AccessFs::REMOVE_FILE));
+//! assert_eq!(tables.rename(plugin, table, import, "table"), denied(AccessFs::REMOVE_FILE));
 //!
 //! // Another plug-in may even take files out of the tree. The table still does not go where it could be written.
 //! let mover = tables.clone_thread(Thread::MAIN)?;
@@ -81,8 +81,25 @@
 //!     .add_path(import, all)?
 //!     .restrict(mover)?;
 //! let gained = Refusal::Crossing { layer, rights: AccessFs::WRITE_FILE };
-//! assert_eq!(tables.rename(mover, table, import, None), Err(gained));
+//! assert_eq!(tables.rename(mover, table, import, "table"), Err(gained));
 //! assert_eq!(gained.errno(), Errno::EXDEV);
+//! # Ok::<(), Errno>(())
+//! ```
+//!
+//! # Paths
+//!
+//! Every entry but the root has a name of 1 to 48 bytes, unique in its directory. [`Tables::lookup`] finds an entry by its path
+//! and [`Tables::path`] gives the path of an entry; all other calls take numbers.
+//!
+//! ```
+//! use skeinrabbit::{AccessFs, Entry, Errno, Kind, Level, Tables, Thread};
+//!
+//! let mut tables = Tables::new(Level::LATEST)?;
+//! let cal = tables.create(Thread::MAIN, Entry::ROOT, Kind::DIRECTORY, "cal")?;
+//! tables.create(Thread::MAIN, cal, Kind::REGULAR, "table")?;
+//! let asked = tables.lookup("/cal/./table")?;
+//! assert_eq!(tables.access(Thread::MAIN, asked, AccessFs::READ_FILE), Ok(()));
+//! assert_eq!(tables.lookup("/cal/feed"), Err(Errno::ENOENT));
 //! # Ok::<(), Errno>(())
 //! ```
 //!
@@ -117,6 +134,7 @@ mod errno;
 mod io;
 mod kind;
 mod level;
+mod names;
 mod numbers;
 mod policy;
 mod refusal;
@@ -132,6 +150,7 @@ pub use cells::{Cells, Table};
 pub use errno::Errno;
 pub use kind::Kind;
 pub use level::Level;
+pub use names::{component, component_range, components};
 pub use numbers::{Entry, Layer, Ruleset, Thread};
 pub use refusal::{Judged, Refusal};
 pub use rights::{AccessFs, AccessNet, PortRights, Rights, Scope, Scopes};

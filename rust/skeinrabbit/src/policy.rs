@@ -278,8 +278,8 @@ impl Tables {
     /// ```
     /// # use skeinrabbit::*;
     /// let mut tables = Tables::new(Level::LATEST)?;
-    /// let folder = tables.create(Thread::MAIN, Entry::ROOT, Kind::DIRECTORY)?;
-    /// let file = tables.create(Thread::MAIN, folder, Kind::REGULAR)?;
+    /// let folder = tables.create(Thread::MAIN, Entry::ROOT, Kind::DIRECTORY, "folder")?;
+    /// let file = tables.create(Thread::MAIN, folder, Kind::REGULAR, "file")?;
     /// tables.set_no_new_privs(Thread::MAIN)?;
     /// tables
     ///     .ruleset()

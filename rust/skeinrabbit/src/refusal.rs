@@ -13,8 +13,8 @@ use core::fmt;
 /// ```
 /// # use skeinrabbit::*;
 /// let mut tables = Tables::new(Level::LATEST)?;
-/// let folder = tables.create(Thread::MAIN, Entry::ROOT, Kind::DIRECTORY)?;
-/// let file = tables.create(Thread::MAIN, folder, Kind::REGULAR)?;
+/// let folder = tables.create(Thread::MAIN, Entry::ROOT, Kind::DIRECTORY, "folder")?;
+/// let file = tables.create(Thread::MAIN, folder, Kind::REGULAR, "file")?;
 /// tables.set_no_new_privs(Thread::MAIN)?;
 /// let open = tables.ruleset().handle_fs(AccessFs::ALL).create()?;
 /// let layer = open.add_path(folder, AccessFs::ALL - AccessFs::MAKE_DIR)?.restrict(Thread::MAIN)?;
@@ -25,7 +25,7 @@ use core::fmt;
 /// assert_eq!(refused.map_err(Errno::from), Err(Errno::EACCES));
 /// // The file may leave its folder, but none may be made at the root.
 /// let rights = AccessFs::MAKE_REG;
-/// let refused = tables.rename(Thread::MAIN, file, Entry::ROOT, None);
+/// let refused = tables.rename(Thread::MAIN, file, Entry::ROOT, "file");
 /// assert_eq!(refused, Err(Refusal::Denied { layer, rights }));
 /// assert_eq!(tables.remove(Thread::MAIN, Entry::ROOT), Err(Refusal::Other(Errno::EBUSY)));
 /// # Ok::<(), Errno>(())

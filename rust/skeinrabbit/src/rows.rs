@@ -1,5 +1,5 @@
 //! Rows of the tables, read as they stand and not tested.
-use crate::cells::Table;
+use crate::cells::row;
 use crate::kind::Kind;
 use crate::level::Level;
 use crate::numbers::{Entry, Layer, Ruleset, Thread};
@@ -118,7 +118,7 @@ impl Tables {
     /// # Ok::<(), Errno>(())
     /// ```
     pub fn entry(&self, entry: Entry) -> Option<EntryRow> {
-        let [kind, parent, object] = self.cells().row(Table::Entries, entry.number())?;
+        let [kind, parent, object] = row(self.cells().entries.as_slice(), entry.number())?;
         (kind != 0).then_some(EntryRow {
             entry,
             kind: Kind::new(kind),
@@ -135,7 +135,8 @@ impl Tables {
     /// A ruleset, if it is open.
     pub fn open_ruleset(&self, ruleset: Ruleset) -> Option<RulesetRow<'_>> {
         let [fs, net, scope, count] = {
-            let row: [u64; RULESET_WIDTH] = self.cells().row(Table::Rulesets, ruleset.number())?;
+            let row: [u64; RULESET_WIDTH] =
+                row(self.cells().rulesets.as_slice(), ruleset.number())?;
             let [fs, net, scope, count, ..] = row;
             [fs, net, scope, count]
         };
@@ -160,7 +161,7 @@ impl Tables {
     /// A layer, if it is in use: if someone holds it.
     pub fn layer(&self, layer: Layer) -> Option<LayerRow> {
         let [parent, fs, net, scope, _, _, holders]: [u64; LAYER_WIDTH] =
-            self.cells().row(Table::Layers, layer.number())?;
+            row(self.cells().layers.as_slice(), layer.number())?;
         (holders != 0).then_some(LayerRow {
             layer,
             parent: Layer::from_cell(parent),
@@ -177,7 +178,7 @@ impl Tables {
     /// A thread, if it is live.
     pub fn thread(&self, thread: Thread) -> Option<ThreadRow> {
         let [live, youngest, no_new_privs, admin] =
-            self.cells().row(Table::Threads, thread.number())?;
+            row(self.cells().threads.as_slice(), thread.number())?;
         (live != 0).then_some(ThreadRow {
             thread,
             youngest: Layer::from_cell(youngest),

@@ -8,7 +8,7 @@ use crate::rights::AccessFs;
 use core::fmt;
 use skeinrabbit_sys as sys;
 
-/// All state of the broker: the file tree, rulesets, layers and threads.
+/// All state of the broker: the file tree with its names, rulesets, layers and threads.
 ///
 /// The methods that are calls answer as document 01 says, and first of all EIO where the tables are not sound.
 /// A refusal changes nothing. Requests and all else that changes nothing take `&self`, and may come from many threads at once.
@@ -16,7 +16,7 @@ use skeinrabbit_sys as sys;
 /// ```
 /// # use skeinrabbit::*;
 /// let mut tables = Tables::new(Level::LATEST)?;
-/// let file = tables.create(Thread::MAIN, Entry::ROOT, Kind::REGULAR)?;
+/// let file = tables.create(Thread::MAIN, Entry::ROOT, Kind::REGULAR, "file")?;
 /// assert_eq!(tables.access(Thread::MAIN, file, AccessFs::WRITE_FILE), Ok(()));
 /// # Ok::<(), Errno>(())
 /// ```

@@ -31,31 +31,49 @@ const CALLS: [Call; 20] = [
     },
     |t, [a, b, ..]| t.signal(a.into(), b.into()).map(|()| 0),
     |t, [a, b, ..]| t.abstract_socket(a.into(), b.into()).map(|()| 0),
-    |t, [a, b, c, ..]| {
-        let answer = t.create(a.into(), b.into(), Kind::new(c));
+    |t, [a, b, c, d, _]| {
+        let answer = t.create(a.into(), b.into(), Kind::new(c), name(d));
         number(t, answer.map(Entry::number))
     },
     |t, [a, b, ..]| {
         let answer = t.remove(a.into(), b.into());
         number(t, answer.map(|()| 0))
     },
-    |t, [a, b, c, ..]| {
-        let answer = t.link(a.into(), b.into(), c.into());
+    |t, [a, b, c, d, _]| {
+        let answer = t.link(a.into(), b.into(), c.into(), name(d));
         number(t, answer.map(Entry::number))
     },
-    |t, [a, b, c, ..]| {
-        let answer = t.rename(a.into(), b.into(), c.into(), None);
+    |t, [a, b, c, d, _]| {
+        let answer = t.rename(a.into(), b.into(), c.into(), name(d));
         number(t, answer.map(|()| 0))
     },
-    |t, [a, b, c, d, _]| {
-        let answer = t.rename(a.into(), b.into(), c.into(), Some(d.into()));
-        number(t, answer.map(|()| 0))
+    |t, [a, b, ..]| {
+        let path = [b"/", name(a), b"//", name(b)].concat();
+        t.lookup(path).map(Entry::number)
     },
     |t, [a, b, c, d, _]| {
         let answer = t.exchange(a.into(), b.into(), c.into(), d.into());
         number(t, answer.map(|()| 0))
     },
 ];
+
+/// Names of all sorts: good, bad and over-long ones.
+fn name(number: u64) -> &'static [u8] {
+    const NAMES: [&[u8]; 11] = [
+        b"cal",
+        b"table",
+        b"a",
+        b"",
+        b".",
+        b"..",
+        b"a/b",
+        b"a\0",
+        b"\xff",
+        &[b'x'; 48],
+        &[b'x'; 49],
+    ];
+    NAMES[number as usize % NAMES.len()]
+}
 
 /// The number of an answer. EACCES and EXDEV come from a layer in use, and no other refusal does.
 fn number<R: Default + PartialEq>(
@@ -131,9 +149,11 @@ fn unsound_tables_are_eio_for_every_call() {
         (Table::Layers, 0, 1),
         (Table::Pool, 3071, 1),
         (Table::Threads, 0, 2),
+        (Table::Names, 0, 1),
+        (Table::Names, 50_175, 255),
     ] {
         let mut cells = sound.clone();
-        cells.table_mut(table)[cell] = value;
+        assert!(cells.set(table, cell, value));
         let mut tables = Tables::from_cells(cells.clone());
         assert!(!tables.is_sound());
         for call in CALLS {
@@ -154,8 +174,10 @@ fn any_cells_can_be_looked_at() {
     let mut noise = Noise(4);
     let mut cells = Cells::zeroed();
     for table in Table::ALL {
-        for cell in cells.table_mut(table) {
-            *cell = noise.of(&[0, 1, 2, 3, 64, 256, u64::MAX]);
+        for cell in 0..table.size() {
+            let byte = table == Table::Names;
+            let largest = if byte { 255 } else { u64::MAX };
+            assert!(cells.set(table, cell, noise.of(&[0, 1, 2, 3, 64, 255, largest])));
         }
     }
     let tables = Tables::from_cells(cells);
@@ -168,7 +190,13 @@ fn any_cells_can_be_looked_at() {
     for thread in 0..9 {
         assert!(tables.domain(Thread::new(thread)).count() <= 64);
     }
+    for entry in 0..1024 {
+        assert!(tables.name(Entry::new(entry)).len() <= 48);
+        let path = tables.path(Entry::new(entry));
+        assert!(path.is_none_or(|path| path.len() <= 1024 * 49));
+    }
     assert_eq!(tables.entry(Entry::new(u64::MAX)), None);
+    assert_eq!(tables.name(Entry::new(u64::MAX)), b"");
     assert_eq!(tables.open_ruleset(Ruleset::new(u64::MAX)), None);
     assert!(!format!("{tables:?} {:?}", tables.cells()).is_empty());
 }
@@ -176,10 +204,11 @@ fn any_cells_can_be_looked_at() {
 #[test]
 fn tables_have_their_sizes() {
     let cells = Cells::zeroed();
-    let sizes = Table::ALL.map(|table| cells.table(table).len());
-    assert_eq!(sizes, [4, 3072, 3136, 1792, 3072, 32]);
+    let sizes = [4, 3072, 3136, 1792, 3072, 32, 50_176];
     assert_eq!(Table::ALL.map(Table::size), sizes);
-    for table in Table::ALL {
+    for (table, size) in Table::ALL.into_iter().zip(sizes) {
+        assert_eq!(cells.get(table, size - 1), Some(0));
+        assert_eq!(cells.get(table, size), None);
         assert_eq!(table.name().parse(), Ok(table));
     }
 }
@@ -429,32 +458,135 @@ fn an_open_ruleset_is_closed_when_it_goes() {
 }
 
 #[test]
-fn a_replaced_entry_is_told_from_none() {
+fn the_entry_that_bears_the_name_is_replaced() {
     let mut tables = Tables::new(Level::LATEST).unwrap();
-    let file = tables
-        .create(Thread::MAIN, Entry::ROOT, Kind::REGULAR)
-        .unwrap();
-    let rename =
-        |tables: &mut Tables, replaced| tables.rename(Thread::MAIN, file, Entry::ROOT, replaced);
-    assert_eq!(rename(&mut tables, None), Ok(()));
+    let main = Thread::MAIN;
+    let mut create = |kind, name| tables.create(main, Entry::ROOT, kind, name).unwrap();
+    let [folder, file, other] = [
+        (Kind::DIRECTORY, "folder"),
+        (Kind::REGULAR, "file"),
+        (Kind::REGULAR, "other"),
+    ]
+    .map(|(kind, name)| create(kind, name));
+    let before = tables.clone();
     let refused = |errno| Err(Refusal::Other(errno));
+    // Its own name: the same object.
+    assert_eq!(tables.rename(main, file, Entry::ROOT, "file"), Ok(()));
+    assert_eq!(tables, before);
     assert_eq!(
-        rename(&mut tables, Some(Entry::ROOT)),
-        refused(Errno::EBUSY)
+        tables.rename(main, file, Entry::ROOT, "folder"),
+        refused(Errno::EISDIR)
     );
     assert_eq!(
-        rename(&mut tables, Some(Entry::new(u64::MAX))),
-        refused(Errno::ENOENT)
+        tables.rename(main, folder, Entry::ROOT, "file"),
+        refused(Errno::ENOTDIR)
     );
-    assert_eq!(rename(&mut tables, Some(file)), Ok(()));
+    assert_eq!(tables, before);
+    assert_eq!(tables.rename(main, file, Entry::ROOT, "other"), Ok(()));
+    assert_eq!(tables.lookup("/other"), Ok(file));
+    assert_eq!(tables.lookup("/file"), Err(Errno::ENOENT));
+    assert_eq!((tables.entry(other), tables.name(other)), (None, &b""[..]));
+    assert_eq!(tables.rename(main, file, folder, [0xff]), Ok(()));
+    assert_eq!(tables.path(file).unwrap(), b"/folder/\xff");
+}
+
+#[test]
+fn names_have_their_bytes_and_their_order() {
+    let mut tables = Tables::new(Level::LATEST).unwrap();
+    let main = Thread::MAIN;
+    let folder = tables.create(main, Entry::ROOT, Kind::DIRECTORY, "folder");
+    let folder = folder.unwrap();
+    let longest = [b'n'; 48];
+    assert!(tables.link(main, folder, folder, longest).is_err());
+    let file = tables.create(main, folder, Kind::REGULAR, longest).unwrap();
+    assert_eq!(tables.name(file), longest);
+    let before = tables.clone();
+    for (name, errno) in [
+        (&[b'/'; 49][..], Errno::ENAMETOOLONG),
+        (b"", Errno::EINVAL),
+        (b".", Errno::EINVAL),
+        (b"..", Errno::EINVAL),
+        (b"a/b", Errno::EINVAL),
+        (b"a\0", Errno::EINVAL),
+        (&longest, Errno::EEXIST),
+    ] {
+        // An unknown kind, a directory as source: both come later.
+        let answer = tables.create(main, folder, Kind::new(8), name);
+        assert_eq!(answer, Err(errno.into()), "{name:?}");
+        let answer = tables.link(main, folder, folder, name);
+        assert_eq!(answer, Err(errno.into()), "{name:?}");
+    }
+    for name in ["...", " ", "~", "\u{e9}"] {
+        assert!(tables
+            .clone()
+            .create(main, folder, Kind::FIFO, name)
+            .is_ok());
+    }
+    assert_eq!(tables, before);
+}
+
+#[test]
+fn paths_find_their_entries() {
+    let mut tables = Tables::new(Level::LATEST).unwrap();
+    let main = Thread::MAIN;
+    let mut directory = Entry::ROOT;
+    for depth in 0..90 {
+        directory = tables
+            .create(main, directory, Kind::DIRECTORY, [b'a' + depth % 26; 48])
+            .unwrap();
+        let path = tables.path(directory).unwrap();
+        assert_eq!(path.len(), 49 * (usize::from(depth) + 1));
+        assert_eq!(components(&path).count(), usize::from(depth) + 1);
+        let found = if path.len() <= 4095 {
+            Ok(directory)
+        } else {
+            Err(Errno::ENAMETOOLONG)
+        };
+        assert_eq!(tables.lookup(&path), found);
+    }
+    let slashes = |count| vec![b'/'; count];
+    assert_eq!(tables.lookup(slashes(4095)), Ok(Entry::ROOT));
+    assert_eq!(tables.lookup(slashes(4096)), Err(Errno::ENAMETOOLONG));
+    assert_eq!(
+        tables.lookup([b"/".as_slice(), &[b'n'; 49]].concat()),
+        Err(Errno::ENAMETOOLONG)
+    );
+    assert_eq!(tables.lookup(""), Err(Errno::ENOENT));
+    assert_eq!(tables.lookup("a"), Err(Errno::EINVAL));
+    assert_eq!(tables.lookup("/\0"), Err(Errno::EINVAL));
+}
+
+#[test]
+fn a_component_is_a_part_of_its_path() {
+    let path = "/cal/./table//".to_owned();
+    for place in 0..20 {
+        let part = component(&path, place);
+        let expected: &[u8] = match place {
+            0..=1 => b"cal",
+            2..=5 => b".",
+            6..=7 => b"table",
+            _ => b"",
+        };
+        assert_eq!(part, expected, "{place}");
+        if !part.is_empty() {
+            assert!(path.as_bytes().as_ptr_range().contains(&part.as_ptr()));
+        }
+    }
+    assert_eq!(component("", 0), b"");
+    assert_eq!(component("a", usize::MAX), b"");
+    assert_eq!(components(b"///").count(), 0);
 }
 
 /// Two directories, a file in each, and two layers: the older denies more.
 fn two_layers() -> (Tables, [Entry; 4]) {
     let mut tables = Tables::new(Level::LATEST).unwrap();
-    let mut create = |directory, kind| tables.create(Thread::MAIN, directory, kind).unwrap();
-    let [one, two] = [Entry::ROOT; 2].map(|root| create(root, Kind::DIRECTORY));
-    let [first, second] = [one, two].map(|directory| create(directory, Kind::REGULAR));
+    let mut create = |directory, kind, name| {
+        let answer = tables.create(Thread::MAIN, directory, kind, name);
+        answer.unwrap()
+    };
+    let [one, two] = ["one", "two"].map(|name| create(Entry::ROOT, Kind::DIRECTORY, name));
+    let first = create(one, Kind::REGULAR, "first");
+    let second = create(two, Kind::REGULAR, "second");
     tables.set_no_new_privs(Thread::MAIN).unwrap();
     let handled = AccessFs::WRITE_FILE | AccessFs::REMOVE_FILE | AccessFs::MAKE_REG;
     for (denied, net) in [
@@ -493,16 +625,16 @@ fn a_refusal_names_the_youngest_layer_that_denies() {
     assert_eq!(port(connect), denied_port(older, connect));
     let (make, remove) = (AccessFs::MAKE_REG, AccessFs::REMOVE_FILE);
     assert_eq!(
-        tables.create(main, one, Kind::REGULAR).map(drop),
+        tables.create(main, one, Kind::REGULAR, "new").map(drop),
         denied(younger, make)
     );
     assert_eq!(tables.remove(main, first), denied(older, remove));
     assert_eq!(
-        tables.link(main, first, two).map(drop),
+        tables.link(main, first, two, "new").map(drop),
         denied(younger, make)
     );
     assert_eq!(
-        tables.rename(main, first, two, Some(second)),
+        tables.rename(main, first, two, "second"),
         denied(younger, make)
     );
     assert_eq!(
@@ -513,8 +645,8 @@ fn a_refusal_names_the_youngest_layer_that_denies() {
         layer: younger,
         rights: AccessFs::REFER,
     };
-    let fifo = tables.create(main, one, Kind::FIFO).unwrap();
-    assert_eq!(tables.link(main, fifo, two).map(drop), Err(inner));
+    let fifo = tables.create(main, one, Kind::FIFO, "fifo").unwrap();
+    assert_eq!(tables.link(main, fifo, two, "fifo").map(drop), Err(inner));
 }
 
 #[test]

@@ -14,4 +14,5 @@ skein-create-spec =
     (λ c. search needs)
     (λ c. search needs)
     (λ c. search needs)
-    (λ c. let w = c .before .before .before in tells _ _ _ (w .before .before .before .before .before .before .create .ensures) (c .number .ensures) (w .report-denial .ensures)))
+    (λ c. search needs)
+    (λ c. let w = c .before .before .before in tells _ _ _ (w .before .before .before .before .before .before .before .before .create .ensures) (c .number .ensures) (w .report-denial .ensures)))

@@ -16,4 +16,5 @@ skein-fresh-spec =
     (λ c. search needs)
     (λ c. search needs)
     (λ c. search needs)
-    (λ c. answers _ _ (c .before .before .before .before .before .before .before .before .before .before .before .before .before .fresh .ensures) (c .number .ensures)))
+    (λ c. search needs)
+    (λ c. answers _ _ (c .before .before .before .before .before .before .before .before .before .before .before .before .before .before .before .fresh .ensures) (c .number .ensures)))

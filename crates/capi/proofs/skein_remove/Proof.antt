@@ -13,4 +13,5 @@ skein-remove-spec =
     (λ c κs. tt)
     (λ c. search needs)
     (λ c. search needs)
-    (λ c. let w = c .before .before .before in tells _ _ _ (w .before .before .before .before .remove .ensures) (c .number .ensures) (w .report-denial .ensures)))
+    (λ c. search needs)
+    (λ c. let w = c .before .before .before in tells _ _ _ (w .before .before .before .before .before .before .remove .ensures) (c .number .ensures) (w .report-denial .ensures)))

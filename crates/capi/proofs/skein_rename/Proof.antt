@@ -11,10 +11,7 @@ skein-rename-spec =
     (λ c κs. tt)
     (λ c κs. tt)
     (λ c κs. tt)
-    (λ c κs. tt)
     (λ c. search needs)
     (λ c. search needs)
-    (λ c.
-    let w = c .before .before .before in
-    let r = w .before .before .before .before in
-    rw (← r .before .replaced-by .ensures) (tells _ _ _ (r .rename .ensures) (c .number .ensures) (w .report-denial .ensures))))
+    (λ c. search needs)
+    (λ c. let w = c .before .before .before in tells _ _ _ (w .before .before .before .before .before .before .rename .ensures) (c .number .ensures) (w .report-denial .ensures)))

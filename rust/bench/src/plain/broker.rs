@@ -2,13 +2,16 @@
 //! minus an error number. Requests and changes of the tree report which layer refuses, with which rights, and an access how many
 //! entries' rules it read.
 
+use super::soundness::is_bad;
 use super::verdict::{access_verdict, rename_verdict, Verdict};
 use crate::landlock::{
-    held_rights, make_right, remove_right, ALL_FS, DIRECTORY, EAGAIN, EBUSY, EINVAL, EIO, ENOENT,
-    ENOSPC, ENOTDIR, ENOTEMPTY, ESRCH, LAST_KIND, OBJECTS_END,
+    held_rights, make_right, remove_right, ALL_FS, DIRECTORY, EAGAIN, EBUSY, EEXIST, EINVAL, EIO,
+    ENAMETOOLONG, ENOENT, ENOSPC, ENOTDIR, ENOTEMPTY, ESRCH, LAST_KIND, OBJECTS_END,
 };
 use crate::tables::{Tables, HOLDERS};
-use skeinrabbit_sys::layout::{ENTRY_WIDTH, LAYER_WIDTH, RULE_WIDTH, THREAD_WIDTH};
+use skeinrabbit_sys::layout::{
+    ENTRY_WIDTH, LAYER_WIDTH, MAX_NAME, MAX_PATH, RULE_WIDTH, THREAD_WIDTH,
+};
 
 /// A broker with its soundness test.
 #[derive(Clone, Copy)]
@@ -63,15 +66,20 @@ impl Broker {
         number(answer.map(|_| 0))
     }
 
-    /// Creates an entry of a kind in a directory; answers its number.
+    /// Creates an entry of a kind in a directory, with a name; answers its number.
     pub fn create(
         self,
         tables: &mut Tables,
         thread: u64,
-        (directory, kind): (u64, u64),
+        (directory, kind, name): (u64, u64, &[u8]),
         report: &mut Report,
     ) -> u64 {
-        reported(self.created(tables, thread, directory, kind), report)
+        reported(self.created(tables, thread, directory, kind, name), report)
+    }
+
+    /// The entry of a path.
+    pub fn lookup(self, tables: &Tables, path: &[u8]) -> u64 {
+        number(self.found(tables, path))
     }
 
     /// Removes an entry.
@@ -79,15 +87,18 @@ impl Broker {
         reported(self.removed(tables, thread, entry), report)
     }
 
-    /// Renames an entry into a directory, with nothing replaced.
+    /// Renames an entry into a directory, with a name that is not taken there.
     pub fn rename(
         self,
         tables: &mut Tables,
         thread: u64,
-        (source, directory): (u64, u64),
+        (source, directory, name): (u64, u64, &[u8]),
         report: &mut Report,
     ) -> u64 {
-        reported(self.renamed(tables, thread, source, directory), report)
+        reported(
+            self.renamed(tables, thread, source, directory, name),
+            report,
+        )
     }
 
     /// Clones a thread; answers the new one.
@@ -124,10 +135,19 @@ impl Broker {
         Ok(verdict)
     }
 
-    fn created(self, tables: &mut Tables, thread: u64, directory: u64, kind: u64) -> Answer {
+    fn created(
+        self,
+        tables: &mut Tables,
+        thread: u64,
+        directory: u64,
+        kind: u64,
+        name: &[u8],
+    ) -> Answer {
         self.begin(tables, thread)?;
         refuse(tables.kind(directory) == 0, ENOENT)?;
         refuse(tables.kind(directory) != DIRECTORY, ENOTDIR)?;
+        name_good(name)?;
+        refuse(child(tables, directory, name).is_some(), EEXIST)?;
         refuse(kind == 0 || kind > LAST_KIND, EINVAL)?;
         let youngest = tables.youngest(thread);
         let right = make_right(kind);
@@ -137,6 +157,7 @@ impl Broker {
         refuse(object == OBJECTS_END, ENOSPC)?;
         tables.system[1] = object + 1;
         tables.put_entry(entry, [kind, directory, object]);
+        tables.put_name(entry, name);
         Ok(entry)
     }
 
@@ -150,19 +171,55 @@ impl Broker {
         granted(access_verdict(tables, youngest, parent, right))?;
         refuse(kind == DIRECTORY && has_child(tables, entry), ENOTEMPTY)?;
         tables.put_entry(entry, [0; ENTRY_WIDTH]);
+        tables.put_name(entry, b"");
         Ok(0)
     }
 
-    fn renamed(self, tables: &mut Tables, thread: u64, source: u64, directory: u64) -> Answer {
+    /// Without what is asked of a replaced entry: there is none in the calls that are measured.
+    fn renamed(
+        self,
+        tables: &mut Tables,
+        thread: u64,
+        source: u64,
+        directory: u64,
+        name: &[u8],
+    ) -> Answer {
         self.begin(tables, thread)?;
         refuse(tables.kind(source) == 0, ENOENT)?;
         refuse(tables.kind(directory) == 0, ENOENT)?;
         refuse(source == 0, EBUSY)?;
         refuse(tables.kind(directory) != DIRECTORY, ENOTDIR)?;
+        name_good(name)?;
         refuse(is_above(tables, source, directory), EINVAL)?;
+        assert!(
+            child(tables, directory, name).is_none(),
+            "nothing is replaced"
+        );
         granted(rename_verdict(tables, thread, source, directory))?;
         tables.entries[ENTRY_WIDTH * source as usize + 1] = directory;
+        tables.put_name(source, name);
         Ok(0)
+    }
+
+    fn found(self, tables: &Tables, path: &[u8]) -> Answer {
+        refuse(!(self.is_sound)(tables), EIO)?;
+        refuse(path.is_empty(), ENOENT)?;
+        refuse(path.len() > MAX_PATH, ENAMETOOLONG)?;
+        refuse(path[0] != b'/' || path.contains(&0), EINVAL)?;
+        let mut at = 0;
+        let components = path.split(|byte| *byte == b'/');
+        for component in components.filter(|component| !component.is_empty()) {
+            refuse(tables.kind(at) != DIRECTORY, ENOTDIR)?;
+            refuse(component.len() > MAX_NAME, ENAMETOOLONG)?;
+            at = match component {
+                b"." => at,
+                b".." => tables.parent(at),
+                name => child(tables, at, name).ok_or(Verdict::refused(ENOENT))?,
+            };
+        }
+        let closing = path.last() == Some(&b'/');
+        refuse(closing && tables.kind(at) != DIRECTORY, ENOTDIR)?;
+        Ok(at)
     }
 
     fn cloned(self, tables: &mut Tables, thread: u64) -> Answer {
@@ -231,6 +288,19 @@ fn free_entry(tables: &Tables) -> Option<u64> {
     let mut rows = tables.entries.chunks_exact(ENTRY_WIDTH);
     let place = rows.position(|row| row[0] == 0)?;
     Some(place as u64)
+}
+
+fn name_good(name: &[u8]) -> Result<(), Verdict> {
+    refuse(name.len() > MAX_NAME, ENAMETOOLONG)?;
+    refuse(name.is_empty() || is_bad(name), EINVAL)
+}
+
+/// The entry of a directory that bears a name.
+fn child(tables: &Tables, directory: u64, name: &[u8]) -> Option<u64> {
+    let rows = tables.entries.chunks_exact(ENTRY_WIDTH).enumerate().skip(1);
+    let mut inside = rows.filter(|(_, row)| row[0] != 0 && row[1] == directory);
+    let (entry, _) = inside.find(|(entry, _)| tables.name(*entry as u64) == name)?;
+    Some(entry as u64)
 }
 
 fn has_child(tables: &Tables, directory: u64) -> bool {

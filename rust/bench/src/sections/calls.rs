@@ -49,7 +49,18 @@ pub fn run(effort: Effort) {
             &script,
         );
     }
+    lookups(effort);
     threads(effort, &policies[..5]);
+}
+
+/// Paths of the last entry, at two depths of a tree and on full tables.
+fn lookups(effort: Effort) {
+    for depth in [5, 20] {
+        let tables = inputs::nested(depth);
+        let script = Script::Lookup(tables.path(tables.live_entries() - 1));
+        let name = format!("lookup, 1,000 entries, {depth} deep");
+        compare(effort, &name, &tables, &script);
+    }
 }
 
 /// Clones and ends, and an end that gives 64 layers back.
@@ -99,32 +110,30 @@ impl Program {
         }
     }
 
-    fn rename(
-        self,
-        tables: &mut Tables,
-        (source, directory): (u64, u64),
-        report: &mut Report,
-    ) -> u64 {
+    fn rename(self, tables: &mut Tables, request: (u64, u64, &[u8]), report: &mut Report) -> u64 {
         match self {
             Program::Core => {
-                let tables = &mut tables.cells();
-                skeinrabbit_sys::rename(tables, THREAD, source, directory, 0, 0, report)
+                let (tables, (source, directory, name)) = (&mut tables.cells(), request);
+                skeinrabbit_sys::rename(tables, THREAD, source, directory, name, report)
             }
-            Program::Plain(broker) => broker.rename(tables, THREAD, (source, directory), report),
+            Program::Plain(broker) => broker.rename(tables, THREAD, request, report),
         }
     }
 
-    fn create(
-        self,
-        tables: &mut Tables,
-        (directory, kind): (u64, u64),
-        report: &mut Report,
-    ) -> u64 {
+    fn create(self, tables: &mut Tables, request: (u64, u64, &[u8]), report: &mut Report) -> u64 {
         match self {
             Program::Core => {
-                skeinrabbit_sys::create(&mut tables.cells(), THREAD, directory, kind, report)
+                let (tables, (directory, kind, name)) = (&mut tables.cells(), request);
+                skeinrabbit_sys::create(tables, THREAD, directory, kind, name, report)
             }
-            Program::Plain(broker) => broker.create(tables, THREAD, (directory, kind), report),
+            Program::Plain(broker) => broker.create(tables, THREAD, request, report),
+        }
+    }
+
+    fn lookup(self, tables: &Tables, path: &[u8]) -> u64 {
+        match self {
+            Program::Core => skeinrabbit_sys::lookup(tables.shared(), path),
+            Program::Plain(broker) => broker.lookup(tables, path),
         }
     }
 
@@ -153,12 +162,15 @@ impl Program {
 /// Calls that can go on for ever: after each even number of them the tree is as before.
 enum Script {
     Access(Questions<(u64, u64)>),
-    /// A file from one directory to another, and back.
-    Rename(Questions<[u64; 3]>),
+    /// A file from one directory to another and back, under its name; the names of all entries.
+    Rename(Questions<[u64; 3]>, Vec<Vec<u8>>),
+    /// The path of the last entry.
+    Lookup(Vec<u8>),
     /// The last entry, a file: removed, then created again in its directory.
     Create {
         entry: u64,
         directory: u64,
+        name: Vec<u8>,
     },
     /// Thread 0 is cloned, and the clone ended.
     Clone,
@@ -177,7 +189,9 @@ impl Script {
 
     fn rename(tables: &Tables) -> Script {
         let mut random = Random::new(32);
-        Script::Rename(Questions::new(|| granted_rename(tables, &mut random)))
+        let requests = Questions::new(|| granted_rename(tables, &mut random));
+        let names = (0..tables.live_entries()).map(|entry| tables.name(entry).to_vec());
+        Script::Rename(requests, names.collect())
     }
 
     fn create(tables: &Tables) -> Script {
@@ -185,6 +199,7 @@ impl Script {
         Script::Create {
             entry,
             directory: tables.parent(entry),
+            name: tables.name(entry).to_vec(),
         }
     }
 
@@ -197,14 +212,16 @@ impl Script {
         let back = i % 2 == 1;
         match self {
             Script::Access(requests) => program.access(tables, requests.at(i), report),
-            Script::Rename(requests) => {
+            Script::Rename(requests, names) => {
                 let [source, home, away] = requests.at(i / 2);
                 let directory = if back { home } else { away };
-                program.rename(tables, (source, directory), report)
+                let name = &names[source as usize];
+                program.rename(tables, (source, directory, name), report)
             }
-            Script::Create { directory, .. } if back => {
-                program.create(tables, (*directory, REGULAR), report)
-            }
+            Script::Lookup(path) => program.lookup(tables, path),
+            Script::Create {
+                directory, name, ..
+            } if back => program.create(tables, (*directory, REGULAR, name), report),
             Script::Create { entry, .. } => program.remove(tables, *entry, report),
             Script::Clone if back => program.end(tables),
             Script::Clone => program.clone_thread(tables),

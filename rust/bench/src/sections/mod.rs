@@ -47,7 +47,7 @@ fn policies() -> [(&'static str, Tables); 6] {
 }
 
 /// The tables that the soundness test is measured on, alone and in a whole access call.
-fn sound_tables() -> [(&'static str, Tables); 8] {
+fn sound_tables() -> [(&'static str, Tables); 10] {
     let (crowded, full) = (inputs::crowded(), inputs::full());
     [
         ("4 entries, no layer", inputs::fresh()),
@@ -61,6 +61,11 @@ fn sound_tables() -> [(&'static str, Tables); 8] {
             inputs::spread(crowded, 1 << 22),
         ),
         ("1,000 hard links of one file", inputs::linked()),
+        (
+            "999 names of 48 bytes that begin alike",
+            inputs::long_names(),
+        ),
+        ("999 names all in one bucket", inputs::one_bucket()),
         ("1,023 deep, 1 layer", inputs::chain()),
         ("every table full", full.clone()),
         (

@@ -16,10 +16,11 @@ pub fn fresh(level: u64) -> Tables {
     tables
 }
 
-/// Every call but `fresh`.
+/// Every call but `fresh`, and `component`, which has no tables.
 fn calls() -> Vec<Call> {
     let (thread, ruleset, flags) = (0, 0, 0);
-    let (source, entry, directory, replaces) = (1, 1, 0, 0);
+    let (source, entry, directory) = (1, 1, 0);
+    let (name, path) = (b"new".to_vec(), b"/".to_vec());
     let (port, rights, kind) = (80, 1, 1);
     let report = 5;
     let calls = vec![
@@ -71,6 +72,7 @@ fn calls() -> Vec<Call> {
             target: thread,
         },
         Call::Create {
+            name: name.clone(),
             thread,
             directory,
             kind,
@@ -82,17 +84,17 @@ fn calls() -> Vec<Call> {
             report,
         },
         Call::Link {
+            name: name.clone(),
             thread,
             source,
             directory,
             report,
         },
         Call::Rename {
+            name,
             thread,
             source,
             directory,
-            replaces,
-            entry,
             report,
         },
         Call::Exchange {
@@ -102,8 +104,10 @@ fn calls() -> Vec<Call> {
             entry,
             report,
         },
+        Call::Lookup { path },
     ];
-    assert_eq!(calls.len() + 1, Call::NAMES.len());
+    // Beside these, component, which has no tables.
+    assert_eq!(calls.len() + 2, Call::NAMES.len());
     calls
 }
 

@@ -41,7 +41,9 @@ fn node_json(node: &Node) -> Json {
     let above = (node.row.entry != Entry::ROOT).then_some(node.row.parent);
     Json::Object(vec![
         ("entry", Json::Number(node.row.entry.number())),
-        ("name", name_json(&node.name)),
+        ("name", Json::option(above, |_| Json::text(&node.name))),
+        ("path", Json::text(&node.path)),
+        ("label", name_json(&node.label)),
         ("kind", Json::text(node.row.kind.to_string())),
         (
             "parent",

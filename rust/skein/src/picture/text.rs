@@ -2,7 +2,7 @@
 use super::{Explained, Held, LayerView, Node, Picture, ScopeView, ThreadView};
 use crate::lines::broken;
 use crate::paint::Paint;
-use crate::words::shown;
+use crate::words::{cut, shown};
 use skeinrabbit::{PortRights, Rights};
 use std::fmt::Display;
 
@@ -92,24 +92,19 @@ fn label_within(view: &ThreadView, widest: usize) -> String {
 
 /// Whether the lines that lead to an entry leave room for its name, or for the beginning of a long one.
 fn is_drawn(node: &Node, widest: usize) -> bool {
-    let beginning = node_name(node).chars().count().min(6);
+    let beginning = node.name.chars().count().min(6);
     node.branch.chars().count() + beginning <= widest
 }
 
-/// An entry's name or number, behind the lines that lead to it or, where these are too long, its depth.
+/// An entry's name, behind the lines that lead to it or, where these are too long, its depth.
 fn entry_label(node: &Node, widest: usize) -> String {
-    let name = node_name(node);
+    let name = node.name.as_str();
     if is_drawn(node, widest) {
         let room = widest.saturating_sub(node.branch.chars().count());
-        format!("{}{}", node.branch, shown(&name, room))
+        format!("{}{}", node.branch, cut(name, room))
     } else {
-        shown(&format!("…{} {name}", node.depth), widest)
+        cut(&format!("…{} {name}", node.depth), widest)
     }
-}
-
-fn node_name(node: &Node) -> String {
-    let number = || node.row.entry.to_string();
-    node.name.clone().unwrap_or_else(number)
 }
 
 fn object_label(node: &Node) -> String {

@@ -1,12 +1,17 @@
 //! The tree, flattened for drawing.
-use crate::scenario::{Names, Space};
+use crate::scenario::{written, Names, Space};
 use skeinrabbit::{Entry, EntryRow, Tables};
 use std::collections::BTreeMap;
 
 /// An entry with its place in the drawing.
 pub struct Node {
     pub row: EntryRow,
-    pub name: Option<String>,
+    /// Its name with the escapes of a scenario; the root's is a slash.
+    pub name: String,
+    /// The name that a line bound to it.
+    pub label: Option<String>,
+    /// Its path, with the same escapes.
+    pub path: String,
     /// The lines that lead to it.
     pub branch: String,
     /// The directories above it.
@@ -39,7 +44,12 @@ pub fn nodes(tables: &Tables, names: &Names) -> Vec<Node> {
         waiting.extend(below.map(|(at, row)| place.below(row, at == last)));
         nodes.push(Node {
             row: place.row,
-            name: names
+            name: match place.row.entry {
+                Entry::ROOT => "/".to_owned(),
+                entry => written(tables.name(entry)),
+            },
+            path: written(&tables.path(place.row.entry).unwrap_or_default()),
+            label: names
                 .name(Space::Entry, place.row.entry.number())
                 .map(str::to_owned),
             branch: place.branch,

@@ -12,6 +12,8 @@ pub enum Answer {
     Done,
     /// Success, with the number of what was made.
     New(u64),
+    /// Success, with the number of the entry that was found.
+    Found(u64),
     Refused(Errno),
 }
 
@@ -20,6 +22,7 @@ impl fmt::Display for Answer {
         match self {
             Answer::Done => f.pad("0"),
             Answer::New(number) => f.pad(&format!("new {number}")),
+            Answer::Found(number) => number.fmt(f),
             Answer::Refused(errno) => errno.fmt(f),
         }
     }
@@ -101,10 +104,11 @@ impl ExpectedAnswer {
         use ExpectedAnswer::{Any, Error, Made, New, Number, Success};
         match (self, answer) {
             (Any, _)
-            | (Success, Answer::Done | Answer::New(_))
+            | (Success, Answer::Done | Answer::New(_) | Answer::Found(_))
             | (Made, Answer::New(_))
             | (Number(0), Answer::Done) => true,
             (Number(number) | New(number), Answer::New(made)) => number == made,
+            (Number(number), Answer::Found(found)) => number == found,
             (Error(expected), Answer::Refused(errno)) => expected == errno,
             _ => false,
         }

@@ -1,5 +1,6 @@
 //! The words of a line, taken one after another.
 use super::names::{is_name, Declared, Operand, Space};
+use super::text::Text;
 use super::Bad;
 use crate::words::one_of;
 use skeinrabbit::{parse_number, Kind, ParseError, PortRights, Rights, Scopes, Table};
@@ -33,9 +34,13 @@ impl<'a> Arguments<'a> {
 
     /// The next word.
     pub fn word(&mut self) -> Result<&'a str, Bad> {
-        let usage = self.usage;
-        self.next()
-            .ok_or_else(|| Bad::new("too few words", format!("`{usage}`")))
+        let word = self.next();
+        word.ok_or_else(|| self.too_few())
+    }
+
+    /// That words are missing.
+    pub fn too_few(&self) -> Bad {
+        Bad::new("too few words", format!("`{}`", self.usage))
     }
 
     /// That no word is left.
@@ -62,13 +67,20 @@ impl<'a> Arguments<'a> {
 
     pub fn entry(&mut self) -> Result<Operand, Bad> {
         let word = self.word()?;
+        self.entry_of(word)
+    }
+
+    /// An entry by its number, by a name or by its path.
+    pub fn entry_of(&self, word: &str) -> Result<Operand, Bad> {
+        if is_path(word) {
+            return Text::parse(word).map(Operand::Path);
+        }
         self.operand(Space::Entry, word)
     }
 
-    pub fn optional_entry(&mut self) -> Result<Option<Operand>, Bad> {
-        let word = self.next();
-        word.map(|word| self.operand(Space::Entry, word))
-            .transpose()
+    /// A name or a path, with its escapes.
+    pub fn text(&mut self) -> Result<Text, Bad> {
+        Text::parse(self.word()?)
     }
 
     pub fn ruleset(&mut self) -> Result<Operand, Bad> {
@@ -88,15 +100,22 @@ impl<'a> Arguments<'a> {
         if self.declared.has(space, word) {
             return Ok(Operand::Name(word.to_owned()));
         }
-        let noun = space.noun();
         let expected = if is_name(word) {
-            let what = format!("the {noun}'s number, or a name that a line above binds to one");
+            let what = format!(
+                "{}, or a label that a line above binds to one",
+                space.given()
+            );
             one_of(&what, word, &self.declared.names(space))
         } else {
-            format!("the {noun}'s number or name")
+            format!("{}, or its label", space.given())
         };
         Err(Bad::word(word, expected))
     }
+}
+
+/// Whether a word that stands for an entry is a path; it may start with an escape.
+pub fn is_path(word: &str) -> bool {
+    word.starts_with(['/', '\\'])
 }
 
 /// A word as a number.

@@ -1,5 +1,6 @@
 //! The calls and their arguments.
 use super::names::Operand;
+use super::text::Text;
 use skeinrabbit::{Attribute, Kind, Layer, Level, PortRights, Rights, Scopes, Table};
 
 /// A call with its arguments.
@@ -19,6 +20,19 @@ pub enum Call {
     Tree {
         thread: Operand,
         call: TreeCall,
+    },
+    Lookup {
+        path: Text,
+    },
+    Component {
+        path: Text,
+        place: u64,
+    },
+    /// Writes rows of `names`: of `count` entries from the first on, counted as rounds are.
+    PokeName {
+        first: u64,
+        count: u64,
+        name: Text,
     },
     Poke {
         table: Table,
@@ -71,18 +85,29 @@ pub enum ThreadCall {
 /// A thread's call that changes the tree.
 #[derive(Debug, PartialEq, Eq)]
 pub enum TreeCall {
-    Create { directory: Operand, kind: Kind },
+    Create { place: Place, kind: Kind },
     Remove { entry: Operand },
-    Link(Move),
-    Rename(Move, Option<Operand>),
-    Exchange(Move, Operand),
+    Link { source: Operand, place: Place },
+    Rename { source: Operand, place: Place },
+    Exchange { source: Operand, other: Other },
 }
 
-/// From where to where.
+/// Where an entry is put.
 #[derive(Debug, PartialEq, Eq)]
-pub struct Move {
-    pub source: Operand,
-    pub directory: Operand,
+pub enum Place {
+    /// A directory and a name.
+    In { directory: Operand, name: Text },
+    /// A path: its last component is the name.
+    Path(Text),
+}
+
+/// The entry that another one is exchanged with.
+#[derive(Debug, PartialEq, Eq)]
+pub enum Other {
+    /// A directory and an entry.
+    In { directory: Operand, entry: Operand },
+    /// A path: what stands before its last component is the directory.
+    Path(Text),
 }
 
 /// How a line gives a ruleset's attribute.

@@ -1,10 +1,11 @@
 //! How each call is written.
 use super::arguments::Arguments;
 use super::attribute::create_ruleset;
-use super::call::{Call, Move, RulesetCall, ThreadCall, TreeCall};
-use super::names::Space;
-use super::poke::poke;
+use super::call::{Call, Other, Place, RulesetCall, ThreadCall, TreeCall};
+use super::names::{Operand, Space};
+use super::poke::{poke, poke_name};
 use super::report::Sort;
+use super::text::Text;
 use super::Bad;
 use crate::words::one_of;
 use skeinrabbit::{parse_number, Layer, Level, Scopes};
@@ -43,7 +44,12 @@ const CREATE_RULESET: &str =
     "create_ruleset [fs=RIGHTS] [net=RIGHTS] [scope=RIGHTS] [size=N] [flags=N]` \
     or `create_ruleset hex=BYTES [flags=N]";
 
-static FORMS: [Form; 21] = [
+const CREATE: &str = "create THREAD DIRECTORY KIND NAME` or `create THREAD PATH KIND";
+const LINK: &str = "link THREAD SOURCE DIRECTORY NAME` or `link THREAD SOURCE PATH";
+const RENAME: &str = "rename THREAD SOURCE DIRECTORY NAME` or `rename THREAD SOURCE PATH";
+const EXCHANGE: &str = "exchange THREAD SOURCE DIRECTORY ENTRY` or `exchange THREAD SOURCE PATH";
+
+static FORMS: [Form; 24] = [
     form("fresh LEVEL", None, fresh),
     form(CREATE_RULESET, Some(Space::Ruleset), create_ruleset),
     form("close_ruleset RULESET", None, close_ruleset),
@@ -67,31 +73,14 @@ static FORMS: [Form; 21] = [
     judged("port THREAD PORT RIGHTS", None, Sort::Port, port),
     form("signal THREAD TARGET", None, signal),
     form("abstract_socket THREAD TARGET", None, abstract_socket),
-    judged(
-        "create THREAD DIRECTORY KIND",
-        Some(Space::Entry),
-        Sort::Change,
-        create,
-    ),
+    judged(CREATE, Some(Space::Entry), Sort::Change, create),
     judged("remove THREAD ENTRY", None, Sort::Change, remove),
-    judged(
-        "link THREAD SOURCE DIRECTORY",
-        Some(Space::Entry),
-        Sort::Change,
-        link,
-    ),
-    judged(
-        "rename THREAD SOURCE DIRECTORY [ENTRY]",
-        None,
-        Sort::Change,
-        rename,
-    ),
-    judged(
-        "exchange THREAD SOURCE DIRECTORY ENTRY",
-        None,
-        Sort::Change,
-        exchange,
-    ),
+    judged(LINK, Some(Space::Entry), Sort::Change, link),
+    judged(RENAME, None, Sort::Change, rename),
+    judged(EXCHANGE, None, Sort::Change, exchange),
+    form("lookup PATH", Some(Space::Entry), lookup),
+    judged("component PATH PLACE", None, Sort::Component, component),
+    form("poke_name ENTRY NAME [COUNT]", None, poke_name),
     form("poke TABLE CELL VALUE [COUNT STEP RISE]", None, poke),
 ];
 
@@ -225,11 +214,24 @@ fn reach(arguments: &mut Arguments, scope: Scopes) -> Result<Call, Bad> {
 
 fn create(arguments: &mut Arguments) -> Result<Call, Bad> {
     let thread = arguments.thread()?;
-    let call = TreeCall::Create {
-        directory: arguments.entry()?,
-        kind: arguments.value()?,
-    };
+    let word = arguments.word()?;
+    let kind = arguments.value()?;
+    let place = place(arguments, word)?;
+    let call = TreeCall::Create { place, kind };
     Ok(Call::Tree { thread, call })
+}
+
+/// The place that a word and, where it is a directory, the next one give.
+fn place(arguments: &mut Arguments, word: &str) -> Result<Place, Bad> {
+    let directory = arguments.entry_of(word)?;
+    match (arguments.next(), directory) {
+        (Some(name), directory) => {
+            let name = Text::parse(name)?;
+            Ok(Place::In { directory, name })
+        }
+        (None, Operand::Path(path)) => Ok(Place::Path(path)),
+        (None, _) => Err(arguments.too_few()),
+    }
 }
 
 fn remove(arguments: &mut Arguments) -> Result<Call, Bad> {
@@ -240,27 +242,48 @@ fn remove(arguments: &mut Arguments) -> Result<Call, Bad> {
     Ok(Call::Tree { thread, call })
 }
 
-fn moved(arguments: &mut Arguments) -> Result<Move, Bad> {
-    Ok(Move {
-        source: arguments.entry()?,
-        directory: arguments.entry()?,
-    })
-}
-
 fn link(arguments: &mut Arguments) -> Result<Call, Bad> {
     let thread = arguments.thread()?;
-    let call = TreeCall::Link(moved(arguments)?);
+    let source = arguments.entry()?;
+    let word = arguments.word()?;
+    let place = place(arguments, word)?;
+    let call = TreeCall::Link { source, place };
     Ok(Call::Tree { thread, call })
 }
 
 fn rename(arguments: &mut Arguments) -> Result<Call, Bad> {
     let thread = arguments.thread()?;
-    let call = TreeCall::Rename(moved(arguments)?, arguments.optional_entry()?);
+    let source = arguments.entry()?;
+    let word = arguments.word()?;
+    let place = place(arguments, word)?;
+    let call = TreeCall::Rename { source, place };
     Ok(Call::Tree { thread, call })
 }
 
 fn exchange(arguments: &mut Arguments) -> Result<Call, Bad> {
     let thread = arguments.thread()?;
-    let call = TreeCall::Exchange(moved(arguments)?, arguments.entry()?);
+    let source = arguments.entry()?;
+    let directory = arguments.entry()?;
+    let other = match (arguments.next(), directory) {
+        (Some(word), directory) => {
+            let entry = arguments.entry_of(word)?;
+            Other::In { directory, entry }
+        }
+        (None, Operand::Path(path)) => Other::Path(path),
+        (None, _) => return Err(arguments.too_few()),
+    };
+    let call = TreeCall::Exchange { source, other };
     Ok(Call::Tree { thread, call })
+}
+
+fn lookup(arguments: &mut Arguments) -> Result<Call, Bad> {
+    let path = arguments.text()?;
+    Ok(Call::Lookup { path })
+}
+
+fn component(arguments: &mut Arguments) -> Result<Call, Bad> {
+    Ok(Call::Component {
+        path: arguments.text()?,
+        place: arguments.number("a place")?,
+    })
 }

@@ -8,11 +8,13 @@ mod names;
 mod poke;
 mod repeat;
 mod report;
+mod text;
 
 pub use answer::{Answer, Expected, ExpectedAnswer};
-pub use call::{Call, Masks, Move, RulesetBytes, RulesetCall, ThreadCall, TreeCall};
+pub use call::{Call, Masks, Other, Place, RulesetBytes, RulesetCall, ThreadCall, TreeCall};
 pub use names::{Names, Operand, Space};
 pub use report::{Mask, Report, ReportWords};
+pub use text::{written, Text};
 
 use crate::words::quoted;
 use arguments::Arguments;
@@ -152,7 +154,7 @@ impl Reader {
             self.declared.add(*space, name);
         }
         if rounds.is_some() && binds.is_some() {
-            return Err(Bad::word("->", "no name for a call that is repeated"));
+            return Err(Bad::word("->", "no label for a call that is repeated"));
         }
         let expected = answer.map(|words| Expected::parse(words, form.reports));
         let expected = expected.transpose()?;
@@ -187,25 +189,26 @@ fn split_at_word<'a, 'w>(
 /// The name after `->`, in the space of what the call makes.
 fn binding(makes: Option<Space>, words: &[&str]) -> Result<(Space, String), Bad> {
     let Some(space) = makes else {
-        let expected = "it only after create_ruleset, clone, create or link, which make something";
+        let expected =
+            "it only after create_ruleset, clone, create or link, which make something, or lookup";
         return Err(Bad::word("->", expected));
     };
     let name = match words {
         [name] => *name,
-        [] => return Err(Bad::new("nothing after `->`", "a name")),
+        [] => return Err(Bad::new("nothing after `->`", "a label")),
         [_, more, ..] => {
             return Err(Bad::word(
                 more,
-                "`=>` or the end of the line after the name",
+                "`=>` or the end of the line after the label",
             ))
         }
     };
     if !is_name(name) {
-        let expected = "a name of letters, digits, `_`, `-`, `.` that does not start with a digit";
+        let expected = "a label of letters, digits, `_`, `-`, `.` that does not start with a digit";
         return Err(Bad::word(name, expected));
     }
     if space.fixed(name).is_some() {
-        return Err(Bad::word(name, "a name without a meaning of its own"));
+        return Err(Bad::word(name, "a label without a meaning of its own"));
     }
     Ok((space, name.to_owned()))
 }

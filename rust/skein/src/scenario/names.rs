@@ -1,4 +1,5 @@
 //! Names for entries, rulesets and threads.
+use super::text::Text;
 use skeinrabbit::{Entry, Tables, Thread};
 use std::collections::{BTreeMap, BTreeSet};
 
@@ -23,6 +24,15 @@ impl Space {
         }
     }
 
+    /// How one of them is given without a name, for messages.
+    pub fn given(self) -> &'static str {
+        match self {
+            Space::Entry => "the entry's number or path",
+            Space::Ruleset => "the ruleset's number",
+            Space::Thread => "the thread's number",
+        }
+    }
+
     /// The number of a name that always has the same meaning.
     pub fn fixed(self, name: &str) -> Option<u64> {
         match (self, name) {
@@ -38,6 +48,8 @@ impl Space {
 pub enum Operand {
     Number(u64),
     Name(String),
+    /// An entry's path.
+    Path(Text),
 }
 
 /// Whether a word can be a name.
@@ -84,15 +96,10 @@ struct Bound {
 pub struct Names(BTreeMap<(Space, String), Bound>);
 
 impl Names {
-    /// The number that an argument stands for, or the name that is not bound.
-    pub fn number<'o>(&self, space: Space, operand: &'o Operand) -> Result<u64, &'o str> {
-        let name = match operand {
-            Operand::Number(number) => return Ok(*number),
-            Operand::Name(name) => name,
-        };
-        let bound = self.0.get(&(space, name.clone()));
-        let number = space.fixed(name).or(bound.map(|bound| bound.number));
-        number.ok_or(name)
+    /// The number that a name stands for, if it is bound.
+    pub fn number(&self, space: Space, name: &str) -> Option<u64> {
+        let bound = self.0.get(&(space, name.to_owned()));
+        space.fixed(name).or(bound.map(|bound| bound.number))
     }
 
     pub fn bind(&mut self, space: Space, name: &str, number: u64) {

@@ -1,4 +1,4 @@
-//! The words of `poke`.
+//! The words of `poke` and `poke_name`.
 use super::arguments::{number, Arguments};
 use super::call::Call;
 use super::Bad;
@@ -13,7 +13,7 @@ pub fn poke(arguments: &mut Arguments) -> Result<Call, Bad> {
     let write = |i| {
         Ok((
             cell_of(table, nth(cell, run.step, i))?,
-            value_of(nth(value, run.rise, i))?,
+            value_of(table, nth(value, run.rise, i))?,
         ))
     };
     let writes = (0..run.count).map(write).collect::<Result<_, Bad>>()?;
@@ -66,8 +66,36 @@ fn cell_of(table: Table, number: Option<u64>) -> Result<usize, Bad> {
     })
 }
 
-fn value_of(number: Option<u64>) -> Result<u64, Bad> {
-    number.ok_or_else(|| Bad::new(TOO_LARGE, "values below 2^64"))
+fn value_of(table: Table, number: Option<u64>) -> Result<u64, Bad> {
+    let fits = |value: &u64| table != Table::Names || *value <= u8::MAX.into();
+    number.filter(fits).ok_or_else(|| match (table, number) {
+        (Table::Names, Some(value)) => {
+            Bad::new(format!("value {value}"), "bytes in names, up to 255")
+        }
+        _ => Bad::new(TOO_LARGE, "values below 2^64"),
+    })
 }
 
+/// Reads the words after `poke_name`: the rows of one entry or of some, one after the other.
+pub fn poke_name(arguments: &mut Arguments) -> Result<Call, Bad> {
+    let word = arguments.word()?;
+    let first = number(word, "an entry")?;
+    let name = arguments.text()?;
+    let count = arguments
+        .next()
+        .map_or(Ok(1), |word| number(word, "a count"))?;
+    let last = first.checked_add(count);
+    if count == 0 || last.is_none_or(|last| last > MAX_ENTRIES) {
+        let expected = format!("entries below {MAX_ENTRIES}, at least one");
+        return Err(Bad::new(format!("{count} from {word} on"), expected));
+    }
+    if name.bytes(count).len() > MAX_NAME {
+        let expected = format!("a name of at most {MAX_NAME} bytes: a row has no room for more");
+        return Err(Bad::new("a name that is too long", expected));
+    }
+    Ok(Call::PokeName { first, count, name })
+}
+
+const MAX_ENTRIES: u64 = 1024;
+const MAX_NAME: usize = 48;
 const TOO_LARGE: &str = "2^64 or more";

@@ -1,4 +1,4 @@
-//! What a request or a change of the tree says beside its answer, and what a line says of that.
+//! What a request, a change of the tree or a component says beside its answer, and what a line says of that.
 use super::arguments::{number, value};
 use super::Bad;
 use skeinrabbit::{Layer, PortRights, Rights};
@@ -11,6 +11,8 @@ pub struct Report {
     pub rights: Mask,
     /// How many entries' rules an access read.
     pub entries_read: Option<u64>,
+    /// Where the component of a path starts and how long it is; zeros where there is none.
+    pub part: Option<(u64, u64)>,
 }
 
 /// Rights of one sort or the other.
@@ -29,18 +31,19 @@ impl fmt::Display for Mask {
     }
 }
 
-/// The sort of a report: the rights that a call is refused for, and whether it counts entries.
+/// The sort of a report: the rights that a call is refused for, whether it counts entries, or a part of a path.
 #[derive(Clone, Copy, PartialEq, Eq)]
 pub enum Sort {
     Access,
     Port,
     Change,
+    Component,
 }
 
 impl Sort {
     fn mask(self, word: &str) -> Result<Mask, Bad> {
         match self {
-            Sort::Access | Sort::Change => value(word).map(Mask::Files),
+            Sort::Access | Sort::Change | Sort::Component => value(word).map(Mask::Files),
             Sort::Port => value(word).map(Mask::Ports),
         }
     }
@@ -51,6 +54,7 @@ impl Sort {
             Sort::Access => {
                 "layer=, rights=, entries_read= or the end of the line after the answer"
             }
+            Sort::Component => "start=, length= or the end of the line after the answer",
             _ => "layer=, rights= or the end of the line after the answer",
         }
     }
@@ -63,6 +67,8 @@ pub struct ReportWords {
     layer: Option<Option<Layer>>,
     rights: Option<Mask>,
     entries_read: Option<u64>,
+    start: Option<u64>,
+    length: Option<u64>,
 }
 
 impl ReportWords {
@@ -80,6 +86,13 @@ impl ReportWords {
 
     fn take(&mut self, word: &str, sort: Sort) -> Result<(), Bad> {
         let again = match word.split_once('=') {
+            Some(("start", text)) if sort == Sort::Component => {
+                self.start.replace(number(text, "a place")?).is_some()
+            }
+            Some(("length", text)) if sort == Sort::Component => {
+                self.length.replace(number(text, "a length")?).is_some()
+            }
+            _ if sort == Sort::Component => return Err(Bad::word(word, sort.expected())),
             Some(("layer", text)) => self.layer.replace(layer(text)?).is_some(),
             Some(("rights", text)) => self.rights.replace(sort.mask(text)?).is_some(),
             Some(("entries_read", text)) if sort == Sort::Access => {
@@ -104,7 +117,12 @@ impl ReportWords {
         let layer = self.layer.is_none() || self.layer == report.map(|report| report.layer);
         let rights = self.rights.is_none() || self.rights == report.map(|report| report.rights);
         let read = report.and_then(|report| report.entries_read);
-        layer && rights && (self.entries_read.is_none() || self.entries_read == read)
+        let (start, length) = report.and_then(|report| report.part).unzip();
+        layer
+            && rights
+            && (self.entries_read.is_none() || self.entries_read == read)
+            && (self.start.is_none() || self.start == start)
+            && (self.length.is_none() || self.length == length)
     }
 }
 
@@ -127,9 +145,15 @@ impl fmt::Display for ReportWords {
         if let Some(rights) = self.rights {
             write!(f, " rights={rights}")?;
         }
-        match self.entries_read {
-            Some(count) => write!(f, " entries_read={count}"),
-            None => Ok(()),
+        for (word, number) in [
+            ("entries_read", self.entries_read),
+            ("start", self.start),
+            ("length", self.length),
+        ] {
+            if let Some(number) = number {
+                write!(f, " {word}={number}")?;
+            }
         }
+        Ok(())
     }
 }

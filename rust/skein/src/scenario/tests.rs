@@ -32,6 +32,14 @@ fn name(name: &str) -> Operand {
     Operand::Name(name.to_owned())
 }
 
+fn text(word: &str) -> Text {
+    Text::parse(word).unwrap()
+}
+
+fn path(word: &str) -> Operand {
+    Operand::Path(text(word))
+}
+
 #[test]
 fn blanks_and_comments_are_skipped() {
     let text = "# all\n\n \t # this\r\n\tclone\t main  # that\r\n";
@@ -68,14 +76,17 @@ fn a_heading_is_the_comment_right_above() {
 
 #[test]
 fn names_and_answers_are_taken_off() {
-    let read = statement("create main root regular -> page.1 => new 0x5");
-    assert_eq!(read.text, "create main root regular");
+    let read = statement("create main root regular page -> page.1 => new 0x5");
+    assert_eq!(read.text, "create main root regular page");
     assert_eq!(read.binds, Some((Space::Entry, "page.1".to_owned())));
     assert_eq!(read.expected, Some(plain(ExpectedAnswer::New(5))));
     let thread = name("main");
-    let directory = name("root");
+    let place = Place::In {
+        directory: name("root"),
+        name: text("page"),
+    };
     let kind = Kind::REGULAR;
-    let call = TreeCall::Create { directory, kind };
+    let call = TreeCall::Create { place, kind };
     assert_eq!(read.call, Call::Tree { thread, call });
 }
 
@@ -124,6 +135,7 @@ fn a_line_may_name_the_layer_and_the_rights() {
             layer: layer.map(Layer::new),
             rights,
             entries_read: None,
+            part: None,
         };
         let answer = Answer::Refused(Errno::EACCES);
         statement(line).allows(answer, Some(report))
@@ -141,9 +153,9 @@ fn a_line_may_name_the_layer_and_the_rights() {
     let line = "port main 80 3 => EACCES layer=0 rights=connect_tcp";
     assert!(met(line, Some(0), Mask::Ports(PortRights::CONNECT_TCP)));
     assert!(!met(line, Some(0), Mask::Files(Rights::WRITE_FILE)));
-    let read = statement("link main 1 root => new 0x5 rights=0 layer=none").expected;
+    let read = statement("link main 1 root x => new 0x5 rights=0 layer=none").expected;
     assert_eq!(read.unwrap().to_string(), "new 5 layer=none rights=none");
-    let read = statement("create main root 1 => new layer=none").expected;
+    let read = statement("create main root 1 x => new layer=none").expected;
     assert_eq!(read.unwrap().to_string(), "new layer=none");
 }
 
@@ -154,6 +166,7 @@ fn a_line_may_name_how_many_entries_are_read() {
             layer: None,
             rights: Mask::Files(Rights::NONE),
             entries_read: Some(count),
+            part: None,
         };
         statement(line).allows(Answer::Done, Some(report))
     };
@@ -238,20 +251,109 @@ fn rulesets_are_given_by_masks_or_bytes() {
 
 #[test]
 fn arguments_may_be_left_out() {
-    let rename = |line: &str| match statement(line).call {
-        Call::Tree {
-            call: TreeCall::Rename(_, replaced),
-            ..
-        } => replaced,
-        call => panic!("{call:?}"),
-    };
-    assert_eq!(rename("rename 0 1 2"), None);
-    assert_eq!(rename("rename 0 1 2 3"), Some(number(3)));
     let flags = |line: &str| match statement(line).call {
         Call::Ruleset(RulesetCall::Restrict { flags, .. }) => flags,
         call => panic!("{call:?}"),
     };
     assert_eq!((flags("restrict 0 0"), flags("restrict 0 0 7")), (0, 7));
+}
+
+#[test]
+fn a_place_is_a_path_or_a_directory_and_a_name() {
+    let place = |line: &str| match statement(line).call {
+        Call::Tree { call, .. } => match call {
+            TreeCall::Create { place, .. }
+            | TreeCall::Link { place, .. }
+            | TreeCall::Rename { place, .. } => place,
+            call => panic!("{call:?}"),
+        },
+        call => panic!("{call:?}"),
+    };
+    let inside = |directory, name: &str| Place::In {
+        directory,
+        name: text(name),
+    };
+    for (line, expected) in [
+        ("create 0 /cal/table 1", Place::Path(text("/cal/table"))),
+        ("create 0 /cal 1 table", inside(path("/cal"), "table")),
+        ("create 0 4 1 5", inside(number(4), "5")),
+        ("link 0 /a /b", Place::Path(text("/b"))),
+        ("link 0 root /b /c", inside(path("/b"), "/c")),
+        ("rename 0 1 root \"\"", inside(name("root"), "\"\"")),
+        ("rename 0 1 \\x2fa", Place::Path(text("/a"))),
+    ] {
+        assert_eq!(place(line), expected, "{line}");
+    }
+    let other = |line: &str| match statement(line).call {
+        Call::Tree {
+            call: TreeCall::Exchange { other, .. },
+            ..
+        } => other,
+        call => panic!("{call:?}"),
+    };
+    assert_eq!(other("exchange 0 1 /b"), Other::Path(text("/b")));
+    let (directory, entry) = (number(2), path("/b"));
+    assert_eq!(other("exchange 0 1 2 /b"), Other::In { directory, entry });
+    let call = Call::Lookup { path: text("a") };
+    assert_eq!(statement("lookup a => EINVAL").call, call);
+    let place = 3;
+    let path = text("/a");
+    assert_eq!(
+        statement("component /a 3").call,
+        Call::Component { path, place }
+    );
+}
+
+#[test]
+fn a_line_may_name_the_part_of_a_path() {
+    let met = |line: &str, part| {
+        let report = Report {
+            layer: None,
+            rights: Mask::Files(Rights::NONE),
+            entries_read: None,
+            part: Some(part),
+        };
+        statement(line).allows(Answer::Done, Some(report))
+    };
+    let line = "component /cal/table 2 => 0 start=5 length=0x5";
+    assert!(met(line, (5, 5)) && !met(line, (5, 4)) && !met(line, (4, 5)));
+    assert!(met("component /cal/table 2 => 0", (1, 3)));
+    let read = statement(line).expected.unwrap();
+    assert_eq!(read.to_string(), "0 start=5 length=5");
+}
+
+#[test]
+fn what_is_found_is_a_number() {
+    let line = statement("lookup / -> top => 0");
+    assert_eq!(line.binds, Some((Space::Entry, "top".to_owned())));
+    assert!(line.allows(Answer::Found(0), None) && !line.allows(Answer::Found(1), None));
+    let made = statement("lookup / => new");
+    assert!(!made.allows(Answer::Found(0), None));
+    assert!(statement("lookup / => ok").allows(Answer::Found(7), None));
+}
+
+#[test]
+fn names_are_poked_in_their_rows() {
+    let call = Call::PokeName {
+        first: 1,
+        count: 1023,
+        name: text("n\\i"),
+    };
+    assert_eq!(statement("poke_name 1 n\\i 1023").call, call);
+    for line in [
+        "poke_name 1024 n",
+        "poke_name 1 n 1024",
+        "poke_name 1 n 0",
+        "poke_name 18446744073709551615 n 2",
+        "poke_name 1 \\*49{n}",
+        "poke_name 1 \\*48{n}\\i",
+        "poke_name /a n",
+        "poke names 50176 0",
+        "poke names 0 256",
+        "poke names 0 255 2 1 1",
+    ] {
+        assert_eq!(bad(line).len(), 1, "{line}");
+    }
 }
 
 #[test]
@@ -293,7 +395,7 @@ fn pokes_stay_in_their_table() {
     for line in [
         "poke threads 32 0",
         "poke system 4 0",
-        "poke names 0 0",
+        "poke places 0 0",
         "poke pool 0",
     ] {
         assert_eq!(bad(line).len(), 1, "{line}");
@@ -365,7 +467,7 @@ fn a_run_stays_in_its_table_and_below_the_last_number() {
 #[test]
 fn name_spaces_are_apart() {
     let text = "\
-create main root regular -> x
+create main /x regular -> x
 clone main -> x
 create_ruleset fs=1 -> main
 restrict x main
@@ -400,7 +502,7 @@ fn a_name_beside_repeat_is_one_mistake() {
         panic!("{lines:?}");
     };
     assert_eq!(found, "`->`");
-    assert_eq!(expected, "no name for a call that is repeated");
+    assert_eq!(expected, "no label for a call that is repeated");
 }
 
 /// Lines with what is found in them and a part of what is expected.
@@ -414,7 +516,7 @@ const MISTAKES: &[(&str, &str, &str)] = &[
     (
         "signal main root",
         "`root`",
-        "the thread's number, or a name",
+        "the thread's number, or a label",
     ),
     (
         "signal main main => 0 layer=none",
@@ -424,21 +526,21 @@ const MISTAKES: &[(&str, &str, &str)] = &[
     (
         "clone other",
         "`other`",
-        "the thread's number, or a name that a line above binds",
+        "the thread's number, or a label that a line above binds",
     ),
-    ("clone 5x", "`5x`", "the thread's number or name"),
-    ("clone main ->", "nothing after `->`", "a name"),
-    ("clone main -> 5", "`5`", "a name of letters"),
+    ("clone 5x", "`5x`", "the thread's number, or its label"),
+    ("clone main ->", "nothing after `->`", "a label"),
+    ("clone main -> 5", "`5`", "a label of letters"),
     ("clone main -> a b", "`b`", "`=>` or the end"),
     (
         "clone main -> main",
         "`main`",
-        "a name without a meaning of its own",
+        "a label without a meaning of its own",
     ),
     (
         "access main root 1 -> x",
         "`->`",
-        "create_ruleset, clone, create or link",
+        "create_ruleset, clone, create or link, which make something, or lookup",
     ),
     ("clone main =>", "nothing after `=>`", "an answer"),
     ("clone main => new x", "`x`", "a number"),
@@ -475,17 +577,38 @@ const MISTAKES: &[(&str, &str, &str)] = &[
         "below 2^64",
     ),
     (
-        "create main root pipe",
+        "create main root pipe x",
         "`pipe`",
         "a kind: regular, directory",
     ),
     (
-        "create main root dirctory",
+        "create main root dirctory x",
         "`dirctory`",
         "a kind: perhaps `directory`",
     ),
+    ("create main root fifo", "too few words", "KIND NAME` or"),
+    ("link main root", "too few words", "`link THREAD SOURCE"),
+    ("rename main 1 2", "too few words", "`rename THREAD SOURCE"),
+    ("exchange main 1 2", "too few words", "`exchange THREAD"),
+    ("create main /a fifo b c", "`c`", "no more than `create"),
+    (
+        "create main cal fifo x",
+        "`cal`",
+        "the entry's number or path",
+    ),
+    ("lookup", "too few words", "`lookup PATH`"),
+    ("lookup /a\\n", "`/a\\n`", "`\\xNN` for a byte"),
+    ("component /a", "too few words", "`component PATH PLACE`"),
+    ("component /a b", "`b`", "a place: a number"),
+    (
+        "component /a 0 => 0 layer=none",
+        "`layer=none`",
+        "start=, length=",
+    ),
+    ("lookup / => 0 start=0", "`start=0`", "the end of the line"),
+    ("poke names 0 256", "value 256", "bytes in names"),
     ("poke thread 0 0", "`thread`", "a table: perhaps `threads`"),
-    ("poke names 0 0", "`names`", "a table: system, entries, "),
+    ("poke places 0 0", "`places`", "a table: system, entries, "),
     ("set_admin main yes", "`yes`", "`on`, `off` or a number"),
     ("create_ruleset fs", "``", "rights at files"),
     ("create_ruleset hex", "`hex`", "fs=, net="),

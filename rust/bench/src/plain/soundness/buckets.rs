@@ -1,5 +1,6 @@
 //! Near-linear: entries in buckets by object and in a search tree in each, marks along climbs, bit maps for keys and pool places.
 
+use super::names::apart_by_chains;
 use super::{unlike_those_before, Method};
 use crate::landlock::DIRECTORY;
 use crate::tables::HOLDERS;
@@ -40,6 +41,10 @@ impl<'a> Method<'a> for Buckets<'a> {
         let mut blocks = entries.chunks_exact(ENTRY_WIDTH * BLOCK);
         let used = blocks.rposition(|block| !Self::all_zero(block));
         used.map_or(0, |block| BLOCK * (block + 1))
+    }
+
+    fn names_apart(entries: &[u64], names: &[u8]) -> bool {
+        apart_by_chains(entries, names)
     }
 
     fn is_file_object(&self, object: u64) -> bool {

@@ -1,9 +1,11 @@
 //! The soundness test: the clauses that any way of testing shares. What takes long has two ways.
 
 mod buckets;
+mod names;
 mod pairwise;
 
 pub use buckets::Buckets;
+pub use names::is_bad;
 pub use pairwise::Pairwise;
 
 use crate::landlock::{
@@ -15,7 +17,7 @@ use skeinrabbit_sys::layout::{
     ENTRY_WIDTH, LAYER_WIDTH, MAX_ENTRIES, MAX_LAYERS, MAX_POOL, MAX_RULES, RULESET_HEAD,
     RULESET_WIDTH, RULE_WIDTH, THREAD_WIDTH,
 };
-use skeinrabbit_sys::SIZES;
+use skeinrabbit_sys::{NAMES_SIZE, SIZES};
 
 /// A way to test what takes long.
 pub trait Method<'a>: Sized {
@@ -45,6 +47,9 @@ pub trait Method<'a>: Sized {
 
     /// The rows of entries after which all are free, or more.
     fn rows_used(entries: &[u64]) -> usize;
+
+    /// Whether no two entries of one directory have the same name, of rows that are sound each by itself.
+    fn names_apart(entries: &[u64], names: &[u8]) -> bool;
 }
 
 /// Whether the tables are sound, for tables of any length and contents. That there is no ruleset and no layer at level 0
@@ -52,12 +57,15 @@ pub trait Method<'a>: Sized {
 pub fn is_sound<'a, M: Method<'a>>(tables: &'a Tables) -> bool {
     let lengths_right = tables.all().map(|table| table.len()) == SIZES;
     lengths_right
+        && tables.names.len() == NAMES_SIZE
         && system_sound(&tables.system)
         && threads_sound(&tables.threads)
         && layer_rows_sound::<M>(tables)
         && M::counts_true(&tables.layers, &tables.threads)
         && M::domains_end(&tables.layers)
         && entries_and_rules_sound::<M>(tables)
+        && names::rows_sound(&tables.entries, &tables.names)
+        && M::names_apart(&tables.entries, &tables.names)
 }
 
 fn entries_and_rules_sound<'a, M: Method<'a>>(tables: &'a Tables) -> bool {

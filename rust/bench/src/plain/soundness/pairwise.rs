@@ -1,5 +1,6 @@
 //! Loops over pairs.
 
+use super::names::{are_twins, is_named};
 use super::{unlike_those_before, Method};
 use crate::landlock::DIRECTORY;
 use crate::tables::HOLDERS;
@@ -16,6 +17,15 @@ impl<'a> Method<'a> for Pairwise<'a> {
         let climbs_end = (0..MAX_ENTRIES).all(|entry| reaches_root(entries, entry));
         let sound = climbs_end && (0..MAX_ENTRIES).all(|entry| links_sound(entries, entry));
         sound.then_some(Pairwise { entries })
+    }
+
+    fn names_apart(entries: &[u64], names: &[u8]) -> bool {
+        (0..MAX_ENTRIES)
+            .filter(|entry| is_named(entries, *entry))
+            .all(|entry| {
+                let mut before = (0..entry).filter(|other| is_named(entries, *other));
+                before.all(|other| !are_twins(entries, names, entry, other))
+            })
     }
 
     fn is_file_object(&self, object: u64) -> bool {

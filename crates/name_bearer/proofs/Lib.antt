@@ -1,0 +1,2 @@
+-- Laws for the scan of a directory's names.
+pub mod Bearing

@@ -1,0 +1,2 @@
+-- Laws for the code that looks at names.
+pub mod Scans

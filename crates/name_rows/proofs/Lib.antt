@@ -1,0 +1,2 @@
+-- Laws for the code over names.
+pub mod Bytes

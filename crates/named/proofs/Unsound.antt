@@ -1,0 +1,81 @@
+-- On sound tables no call answers EIO. Assumes nothing.
+use mathlib.Core.Path.{_≡_, refl, sym, _∙_}
+use mathlib.Core.Bool.{true, not}
+use mathlib.Core.List.{List, _∷_}
+use Prim.Native.Nat.{ℕ}
+use native.Mathlib.Omega.{arith}
+use borrow.Author.Tests.{ne-eqb}
+use Rattle.laws.specs.Refusals.{_⇒_, first}
+use Rattle.access.specs.Errno.{EIO}
+use Rattle.tables.specs.Tables.{Tables}
+use Rattle.tables.specs.Outcome.{errorOf}
+use Rattle.fs.specs.Move.{verdict}
+use Rattle.ruleset.specs.Create.{createForm, createMasks, createChecks, closeChecks}
+use Rattle.rule.specs.Rule.{addForm, pathForm, portForm as rulePortForm, addPathChecks, addPortChecks}
+use Rattle.domain_restrict.specs.Restrict.{restrictForm, restrictRoom, restrictChecks}
+use Rattle.domain.specs.Threads.{cloneChecks, markChecks}
+use Rattle.domain.specs.Layer.{layerChecks}
+use Rattle.domain_end.specs.End.{endChecks}
+use Rattle.fs_access.specs.Access.{accessNames, accessMask, accessChecks}
+use Rattle.net.specs.Port.{portForm, portChecks}
+use Rattle.task.specs.Task.{taskChecks}
+use Rattle.tree.specs.Create.{createShape, createVerdict, createLater, treeCreateChecks, removeShape, removeVerdict, removeLater, removeChecks}
+use Rattle.tree.specs.Link.{linkShape, linkVerdict, linkLater, linkChecks}
+use Rattle.tree.specs.Rename.{renameNames, renameShape, renameVerdict, renameLater, renameChecks}
+use Rattle.tree.specs.Exchange.{exchangeNames, exchangeShape, exchangeVerdict, exchangeChecks}
+use Rattle.theorems.specs.Calls.{Call, create-ruleset, close-ruleset, add-path-rule, add-port-rule, restrict, layer-rules, clone, end-thread, set-no-new-privs, set-admin, access, port, task}
+use Rattle.theorems.specs.Named.{refusalsOf}
+use Rattle.names.specs.Names.{nameChecks}
+use Rattle.names.specs.Paths.{pathChecks, found}
+use Rattle.named.specs.Named.{Named, namedSound}
+use Rattle.named.specs.Tree.{createTarget, newName, createBefore, createNamedChecks, linkTarget, linkBefore, linkNamedChecks, renameBefore, renameNamedChecks}
+use Rattle.named.specs.Calls.{NamedCall, lifted, create, remove, link, rename, exchange, lookup, replyNamed}
+use Rattle.named.specs.Layer.{refusalsNamed}
+use Rattle.named.proofs.Made.{omits, omits-first}
+use Rattle.named.proofs.Layer.{found-replies, layer-named}
+
+-- EIO is not among the refusals of a call
+settled-omits : (T : Tables) (c : Call) → omits EIO (refusalsOf T c) ≡ true
+unfolding omits refusalsOf createChecks createForm createMasks closeChecks addPathChecks addPortChecks addForm pathForm rulePortForm restrictChecks restrictForm restrictRoom layerChecks cloneChecks endChecks markChecks taskChecks
+    accessChecks accessNames accessMask portChecks portForm
+    treeCreateChecks createShape createVerdict createLater removeChecks removeShape removeVerdict removeLater
+    linkChecks linkShape linkVerdict linkLater renameChecks renameNames renameShape renameVerdict renameLater exchangeChecks exchangeNames exchangeShape exchangeVerdict verdict
+settled-omits T (create-ruleset bs flags) = refl
+settled-omits T (close-ruleset r) = refl
+settled-omits T (add-path-rule r e rights flags) = refl
+settled-omits T (add-port-rule r p rights flags) = refl
+settled-omits T (restrict t r flags) = refl
+settled-omits T (layer-rules l) = refl
+settled-omits T (clone t) = refl
+settled-omits T (end-thread t) = refl
+settled-omits T (set-no-new-privs t) = refl
+settled-omits T (set-admin t on) = refl
+settled-omits T (access t e m) = refl
+settled-omits T (port t p m) = refl
+settled-omits T (task t u s) = refl
+settled-omits T (Call.create t d k) = refl
+settled-omits T (Call.remove t e) = refl
+settled-omits T (Call.link t s d) = refl
+settled-omits T (Call.rename t s d x) = refl
+settled-omits T (Call.exchange t s d x) = refl
+
+found-not : (es ns p : List ℕ) → errorOf (found es ns p) ≡ EIO → ⊥
+found-not = found-replies (λ r. errorOf r ≡ EIO → ⊥) (λ e z. omega arith) (λ z. omega arith) (λ z. omega arith) (λ z. omega arith)
+
+named-omits : (N : Named) (c : NamedCall) → omits EIO (refusalsNamed N c) ≡ true
+unfolding omits refusalsOf refusalsNamed createNamedChecks createBefore createTarget newName nameChecks createVerdict createLater
+    linkNamedChecks linkBefore linkTarget linkVerdict linkLater renameNamedChecks renameBefore renameVerdict renameLater verdict pathChecks
+named-omits N (lifted c q) = settled-omits (N .core) c
+named-omits N (create t d k n) = refl
+named-omits N (remove t e) = settled-omits (N .core) (Call.remove t e)
+named-omits N (link t s d n) = refl
+named-omits N (rename t s d n) = refl
+named-omits N (exchange t s d x) = settled-omits (N .core) (Call.exchange t s d x)
+named-omits N (lookup p) = rw (ne-eqb (errorOf (found (N .core .entries) (N .names) p)) EIO (found-not (N .core .entries) (N .names) p)) refl
+
+pub not-unsound : (N : Named) (c : NamedCall) → namedSound N ≡ true → errorOf (replyNamed N c) ≡ EIO → ⊥
+unfolding first
+not-unsound N c h z = omits-first EIO (refusalsNamed N c) (named-omits N c) (λ z. omega arith) (sym past ∙ sym (layer-named .number N c) ∙ z)
+  where
+    past : first (not (namedSound N) ⇒ EIO ∷ refusalsNamed N c) ≡ first (refusalsNamed N c)
+    past = rw h refl

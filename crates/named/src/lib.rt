@@ -1,0 +1,1 @@
+// No code: the calls on tables with names, and what holds of all of them.

@@ -1,0 +1,24 @@
+-- Assumes nothing.
+use borrow.Author.Needs.{needs}
+use Rattle.named.proofs.Replies.{told-refused, told-done}
+use Rattle.named_moves.proofs.exchange.Statement.{statement}
+use Rattle.named_moves.proofs.exchange.Tie as tie
+
+pub exchange-spec : {M : Type 1} → statement M
+exchange-spec =
+    tie.close
+    (tie.spec
+    (λ c κs. tt)
+    (λ c κs. tt)
+    (λ c. search needs)
+    (λ c. let r = c .before in told-refused _ _ _ _ _ (r .before .exchange-checks .ensures) _ (r .is-refused .ensures) (c .if1 .taken))
+    (λ c κs. tt)
+    (λ c κs. tt)
+    (λ c. search needs)
+    (λ c. search needs)
+    (λ c.
+    let a = c .before .before in
+    let p = a .before .before .before .before in
+    let i = p .before .before .before in
+    let r = i .before in
+    rw (a .apply-exchange .ensures, p .put-swapped .ensures) (told-done _ _ _ _ _ (r .before .exchange-checks .ensures) _ _ (r .is-refused .ensures) (i .if1 .left))))

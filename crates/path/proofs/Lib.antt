@@ -1,0 +1,3 @@
+-- Laws for the code that finds components.
+pub mod Places
+pub mod Spans

@@ -1,0 +1,2 @@
+-- What the report of a component says.
+pub mod Span

@@ -1,0 +1,2 @@
+-- Laws for the lookup of a path.
+pub mod Steps

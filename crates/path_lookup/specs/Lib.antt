@@ -1,0 +1,2 @@
+-- What a lookup answers.
+pub mod Lookup

@@ -1,0 +1,2 @@
+-- What the test by chains tells.
+pub mod Told

@@ -1,0 +1,2 @@
+-- An index of the entries that have a name.
+pub mod Chains

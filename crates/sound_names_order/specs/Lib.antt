@@ -1,0 +1,2 @@
+-- The order of entries by their directories and rows.
+pub mod Order

@@ -1,0 +1,2 @@
+-- Entries that go into a sorted list.
+pub mod Counts

@@ -1,0 +1,2 @@
+-- The laws of walks along chains.
+pub mod Walks

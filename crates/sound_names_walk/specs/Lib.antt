@@ -1,0 +1,3 @@
+-- Chains of the entries whose names fall into one bucket.
+pub mod Fold
+pub mod Walks

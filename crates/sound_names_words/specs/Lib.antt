@@ -1,0 +1,2 @@
+-- Bytes read by words.
+pub mod Words

@@ -1,0 +1,3 @@
+-- The starred cases with names, proved.
+pub mod Scan
+pub mod Proved

@@ -1,0 +1,196 @@
+-- The starred cases of document 01 with names: that all tables met are sound is a theorem, and the rest is computed. Assumes nothing.
+use mathlib.Core.Path.{_≡_, refl, sym, ap, fun-ext, _∙_}
+use mathlib.Core.Bool.{true}
+use mathlib.Core.List.{List, [], _∷_, _++_, map}
+use Prim.Native.Nat.{ℕ, _*_}
+use native.Mathlib.Omega.{arith}
+use lib.ListN.{length}
+use Rattle.laws.specs.Tests.{anyBelow, firstFrom, firstBelow, elem, any, allOf}
+use Rattle.laws.specs.Refusals.{Check, _⇒_, first}
+use Rattle.laws.specs.Cells.{copied}
+use Rattle.access.specs.Rights.{knownFs, knownNet, knownScope}
+use Rattle.access.specs.Errno.{EPERM, EEXIST, EINVAL}
+use Rattle.access.specs.Kinds.{kindOf}
+use Rattle.access.specs.Limits.{maxLevel, maxEntries}
+use Rattle.access.specs.declared.errno.Reply.{Reply}
+use Rattle.access.specs.declared.errno.Reply.the-variants.{Done}
+use Rattle.tables.specs.Tables.{Tables, entryWidth, object, live, isDir, pastFileSet, pathRule, threadLive}
+use Rattle.tables.specs.Layers.{handlesAny, rulesetAt, isOpen, layerAt, layerInUse}
+use Rattle.tables.specs.Outcome.{Outcome, outcome, answer, blame, named, naming}
+use Rattle.tables.specs.Fresh.{freshTables}
+use Rattle.sound_rules.specs.Rules.{masksKnown}
+use Rattle.sound.specs.Sound.{sound}
+use Rattle.sound.specs.Call.{call}
+use Rattle.sound.proofs.Calls.{call-passes}
+use Rattle.sound.proofs.Facts.{facts}
+use Rattle.judge.specs.Rules.{isRule, rulePlace, rightsOn}
+use Rattle.judge.specs.Judge.{grants, granted, handled, denied, missing}
+use Rattle.judge.specs.Domain.{chain, domain, layerLacks, lacks}
+use Rattle.judge.specs.Blame.{namingEntry}
+use Rattle.ruleset.specs.Attribute.{number, knownSize, strayByte, stray}
+use Rattle.ruleset.specs.Create.{freeRuleset, createForm, createMasks, createChecks, opened, createDone, created}
+use Rattle.rule.specs.Rule.{addForm, isFull, sweeping, pathForm, addPathChecks, appended, added, addDone, pathAdded}
+use Rattle.domain_restrict.specs.Restrict.{unmarked, restrictForm, isDeep, noRoom, restrictRoom, restrictChecks, freeLayer, layerRow, counted, restricted, restrictDone, restrictCall}
+use Rattle.domain.specs.Threads.{markChecks, markDone, privsSet}
+use Rattle.fs_access.specs.Access.{accessNames, accessMask, accessChecks, accessCall}
+use Rattle.fs.specs.Needs.{makeOf, sourceNeeds, targetNeeds}
+use Rattle.fs.specs.Move.{entryRights, deniedNeeds, deniedRefer, uncontained, escaping, crossing, layerDenies, layerCrosses, verdict}
+use Rattle.fs.specs.Blame.{crossed, namingMove}
+use Rattle.tree.specs.declared.Replaced.{Replaced}
+use Rattle.tree.specs.Entries.{freeEntry, unknownKind, above, isAbove, replacing, sameObject, putEntry, putParent, withEntries}
+use Rattle.tree.specs.Moves.{needsFrom, needsTo, moveOf, linkMove, renameMove}
+use Rattle.tree.specs.Create.{createVerdict, createLater, treeCreated}
+use Rattle.tree.specs.Link.{linkVerdict, linkLater, linked}
+use Rattle.tree.specs.Rename.{renameVerdict, renameLater, dropped, moved}
+use Rattle.theorems.specs.Calls.{Call, create-ruleset, close-ruleset, add-path-rule, add-port-rule, restrict, layer-rules, clone, end-thread, set-no-new-privs, set-admin, access, port, task, outcomeOf}
+use Rattle.names.specs.Names.{sameBytes, badBytes, nameChecks, rowAt, nameOf, putName, dropName}
+use Rattle.named.specs.Named.{Named, withNames, namedSound, NamedOutcome, namedOutcome, namedAnswer, namedCall, judgedBy, noNames, freshNamed}
+use Rattle.named.specs.Tree.{createTarget, newName, createBefore, newNames, createNamedChecks, createNamed, linkTarget, linkBefore, linkNamedChecks, linkNamed, replacedBy, renameBefore, renameNamedChecks, renamedNames, renameNamed}
+use Rattle.named.specs.Calls.{NamedCall, lifted, create, remove, link, rename, exchange, lookup, outcomeNamed, afterNamed, allNamed}
+use Rattle.named.proofs.Made.{core-sound, names-sound, lift-goes}
+use Rattle.named.proofs.Kept.{kept}
+use Rattle.named.proofs.Fresh.{fresh-sound-named, never-unsound}
+use Rattle.starred_named.proofs.Scan.{scan, takenFast, bearerFast, taken-fast, bearer-fast}
+use Rattle.starred_named.specs.Starred.{Case, cases, given, Starred}
+
+-- what a call answers and leaves, with no test of soundness; a call that stands in no case is as it was
+unfoldable bare : Tables → Call → Outcome
+bare T (create-ruleset bs flags) = answer T (createChecks T bs flags) (createDone T bs)
+bare T (add-path-rule r e rights flags) = answer T (addPathChecks T r e rights flags) (addDone T r pathRule (object (T .entries) e) rights)
+bare T (restrict t r flags) = answer T (restrictChecks T t r flags) (restrictDone T t r)
+bare T (set-no-new-privs t) = answer T (markChecks T t) (markDone T t 2 1)
+bare T (access t e m) = namingEntry T t e m (answer T (accessChecks T t e m) (outcome (Done 0) T))
+bare T (close-ruleset r) = outcomeOf T (close-ruleset r)
+bare T (add-port-rule r p rights flags) = outcomeOf T (add-port-rule r p rights flags)
+bare T (layer-rules l) = outcomeOf T (layer-rules l)
+bare T (clone t) = outcomeOf T (clone t)
+bare T (end-thread t) = outcomeOf T (end-thread t)
+bare T (set-admin t on) = outcomeOf T (set-admin t on)
+bare T (port t p m) = outcomeOf T (port t p m)
+bare T (task t u s) = outcomeOf T (task t u s)
+bare T (Call.create t d k) = outcomeOf T (Call.create t d k)
+bare T (Call.remove t e) = outcomeOf T (Call.remove t e)
+bare T (Call.link t s d) = outcomeOf T (Call.link t s d)
+bare T (Call.rename t s d x) = outcomeOf T (Call.rename t s d x)
+bare T (Call.exchange t s d x) = outcomeOf T (Call.exchange t s d x)
+
+-- the checks, with the bearer of the name looked for in one pass
+unfoldable newFast : Named → ℕ → List ℕ → List Check
+newFast N d n = nameChecks n ++ (takenFast (N .core .entries) (N .names) d n ⇒ EEXIST ∷ [])
+
+unfoldable createFast : Named → ℕ → ℕ → ℕ → List ℕ → List Check
+createFast N t d k n =
+    (createTarget (N .core .entries) (N .core .threads) t d ++ newFast N d n) ++ ((unknownKind k ⇒ EINVAL ∷ []) ++ (createVerdict (N .core) t d k ++ createLater (N .core)))
+
+unfoldable linkFast : Named → ℕ → ℕ → ℕ → List ℕ → List Check
+linkFast N t s d n =
+    (linkTarget (N .core .entries) (N .core .threads) t s d ++ newFast N d n) ++ ((isDir (N .core .entries) s ⇒ EPERM ∷ []) ++ (linkVerdict (N .core) t s d ++ linkLater (N .core)))
+
+unfoldable renameFast : Named → ℕ → ℕ → ℕ → List ℕ → Replaced → List Check
+renameFast N t s d n x =
+    renameBefore (N .core) t s d n ++ ((isAbove (N .core .entries) s d ⇒ EINVAL ∷ []) ++ (renameVerdict (N .core) t s d x ++ renameLater (N .core .entries) s x))
+
+unfoldable played : Named → NamedCall → NamedOutcome
+played N (lifted c q) = let o = bare (N .core) c in namedOutcome (o .reply) (withNames (o .left) (N .names))
+played N (create t d k n) =
+    judgedBy (namingEntry (N .core) t d (makeOf (kindOf k)))
+    (namedAnswer N (createFast N t d k n)
+    (namedOutcome (Done (freeEntry (N .core .entries))) (withNames (treeCreated (N .core) d k) (newNames (N .core .entries) (N .names) n))))
+played N (link t s d n) =
+    judgedBy (namingMove (N .core) t (linkMove (N .core .entries) s d))
+    (namedAnswer N (linkFast N t s d n)
+    (namedOutcome (Done (freeEntry (N .core .entries))) (withNames (withEntries (N .core) (linked (N .core .entries) s d)) (newNames (N .core .entries) (N .names) n))))
+played N (rename t s d n) =
+    let x = bearerFast (N .core .entries) (N .names) d n in
+    judgedBy (namingMove (N .core) t (renameMove (N .core .entries) s d x))
+    (namedAnswer N (renameFast N t s d n x)
+    (namedOutcome (Done 0) (withNames (withEntries (N .core) (moved (N .core .entries) s d x)) (renamedNames (N .core .entries) (N .names) s n x))))
+played N (remove t e) = outcomeNamed N (remove t e)
+played N (exchange t s d x) = outcomeNamed N (exchange t s d x)
+played N (lookup p) = outcomeNamed N (lookup p)
+
+-- ---- sound tables pass the tests
+past : (T : Tables) (cs : List Check) (done : Outcome) → sound T ≡ true → call T cs done ≡ answer T cs done
+past T cs done h = sym (call-passes T cs done (sym h) refl refl)
+
+same-bare : (T : Tables) (c : Call) → sound T ≡ true → outcomeOf T c ≡ bare T c
+unfolding bare outcomeOf created pathAdded restrictCall privsSet accessCall
+same-bare T (create-ruleset bs flags) h = past T _ _ h
+same-bare T (add-path-rule r e rights flags) h = past T _ _ h
+same-bare T (restrict t r flags) h = past T _ _ h
+same-bare T (set-no-new-privs t) h = past T _ _ h
+same-bare T (access t e m) h = ap (namingEntry T t e m) (past T _ _ h)
+same-bare T (close-ruleset r) h = refl
+same-bare T (add-port-rule r p rights flags) h = refl
+same-bare T (layer-rules l) h = refl
+same-bare T (clone t) h = refl
+same-bare T (end-thread t) h = refl
+same-bare T (set-admin t on) h = refl
+same-bare T (port t p m) h = refl
+same-bare T (task t u s) h = refl
+same-bare T (Call.create t d k) h = refl
+same-bare T (Call.remove t e) h = refl
+same-bare T (Call.link t s d) h = refl
+same-bare T (Call.rename t s d x) h = refl
+same-bare T (Call.exchange t s d x) h = refl
+
+past-named : (a b : ℕ → ℕ) (D : List ℕ) (N : Named) (cs : List Check) (done : NamedOutcome) → namedSound N ≡ true
+    → judgedBy (naming a b D) (namedCall N cs done) ≡ judgedBy (naming a b D) (namedAnswer N cs done)
+unfolding namedCall namedAnswer first
+past-named a b D N cs done h = rw h refl
+
+long : (N : Named) → namedSound N ≡ true → length (N .core .entries) ≡ entryWidth * maxEntries
+long N h = facts (N .core) (core-sound N h) .lengths .entries
+
+same : (N : Named) (c : NamedCall) → namedSound N ≡ true → outcomeNamed N c ≡ played N c
+unfolding played outcomeNamed createNamed linkNamed renameNamed
+    createFast linkFast renameFast newFast createNamedChecks linkNamedChecks renameNamedChecks createBefore linkBefore newName replacedBy
+same N (lifted c q) h = sym (lift-goes N (outcomeOf (N .core) c) (names-sound N h)) ∙ ap (λ (o : Outcome). namedOutcome (o .reply) (withNames (o .left) (N .names))) (same-bare (N .core) c (core-sound N h))
+same N (create t d k n) h = rw (← taken-fast (N .core .entries) (N .names) d n (long N h)) (past-named _ _ _ N _ _ h)
+same N (link t s d n) h = rw (← taken-fast (N .core .entries) (N .names) d n (long N h)) (past-named _ _ _ N _ _ h)
+same N (rename t s d n) h = rw (← bearer-fast (N .core .entries) (N .names) d n (long N h)) (past-named _ _ _ N _ _ h)
+same N (remove t e) h = refl
+same N (exchange t s d x) h = refl
+same N (lookup p) h = refl
+
+-- a list of calls played
+unfoldable playedAll : Named → List NamedCall → Named
+playedAll N [] = N
+playedAll N (c ∷ cs) = playedAll (played N c .left) cs
+
+same-all : (N : Named) (cs : List NamedCall) → namedSound N ≡ true → allNamed N cs ≡ playedAll N cs
+unfolding allNamed playedAll
+same-all N [] h = refl
+same-all N (c ∷ cs) h = same-all (afterNamed N c) cs (kept N c h) ∙ ap (λ o. playedAll (o .left) cs) (same N c h)
+
+-- what a case's last call answers, played
+unfoldable playedReply : Case → Reply
+playedReply c = played (playedAll (freshNamed maxLevel) (c .calls)) (c .last) .reply
+
+played-given : (c : Case) → given c ≡ playedReply c
+unfolding playedReply
+played-given c =
+    ap (λ o. o .reply) (same (allNamed (freshNamed maxLevel) (c .calls)) (c .last) (never-unsound maxLevel (omega arith) (c .calls)))
+    ∙ ap (λ N. played N (c .last) .reply) (same-all (freshNamed maxLevel) (c .calls) (fresh-sound-named maxLevel (omega arith)))
+
+-- the cases as played, computed
+played-cases : map playedReply cases ≡ map (λ c. c .answer) cases
+unfolding anyBelow allOf firstFrom firstBelow any first copied
+    knownFs knownNet knownScope kindOf
+    live isDir pastFileSet threadLive handlesAny rulesetAt isOpen layerAt layerInUse answer freshTables masksKnown
+    isRule rulePlace rightsOn grants granted handled denied missing chain domain layerLacks lacks
+    number knownSize strayByte stray freeRuleset createForm createMasks createChecks opened createDone
+    addForm isFull sweeping pathForm addPathChecks appended added addDone
+    unmarked restrictForm isDeep noRoom restrictRoom restrictChecks freeLayer layerRow counted restricted restrictDone markChecks markDone
+    accessNames accessMask accessChecks sourceNeeds targetNeeds
+    entryRights deniedNeeds deniedRefer uncontained escaping crossing crossed layerDenies layerCrosses verdict blame named
+    freeEntry unknownKind above replacing sameObject putEntry putParent needsFrom needsTo moveOf
+    createVerdict createLater treeCreated linkVerdict linkLater linked renameVerdict renameLater dropped moved
+    elem sameBytes badBytes nameChecks rowAt nameOf putName dropName scan takenFast bearerFast
+    namedAnswer noNames freshNamed createTarget linkTarget newNames renameBefore renamedNames newFast createFast linkFast renameFast
+    bare played playedAll playedReply
+played-cases = refl
+
+-- the theorem: every case's last call answers what document 01 says
+pub starred : Starred
+starred = ap (λ f. map f cases) (fun-ext played-given) ∙ played-cases

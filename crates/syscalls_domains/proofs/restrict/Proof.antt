@@ -1,0 +1,21 @@
+-- Assumes nothing.
+use borrow.Author.Needs.{needs}
+use Rattle.named.proofs.Replies.{lift-unsound, lift-done}
+use Rattle.syscalls_domains.proofs.restrict.Statement.{statement}
+use Rattle.syscalls_domains.proofs.restrict.Tie as tie
+
+pub restrict-spec : {M : Type 1} → statement M
+restrict-spec =
+    tie.close
+    (tie.spec
+    (λ c κs. tt)
+    (λ c. lift-unsound _ _ (c .before .names-sound .ensures) (c .if1 .taken))
+    (λ c κs. tt)
+    (λ c. search needs)
+    (λ c. search needs)
+    (λ c. search needs)
+    (λ c. search needs)
+    (λ c.
+    let d = c .before .before .before .before .before .before .before .before in
+    let t = d .before .before .before .before .before in
+    lift-done _ _ (t .before .names-sound .ensures) (t .if1 .left) (d .restrict .ensures)))
