@@ -1,4 +1,4 @@
-// What the benchmark in rust/bench measures, exported for it: the rule scan, the climb, the verdicts and the soundness tests.
+// What the benchmark in rust/bench measures, exported for it: the rule scan, the climb and the verdicts.
 use access::limits::MAX_ENTRIES;
 use access::rights::Rights;
 use tables::rows::PATH_RULE;
@@ -6,21 +6,18 @@ use tree::Replaced;
 use verdict::move_denial;
 use verdict::thread_judged;
 ghost use mathlib.Core.Path.{_≡_};
-ghost use mathlib.Core.Bool.{cond};
 ghost use Rattle.access.specs.Rights.{without};
 ghost use mathlib.Core.List.{[], _∷_};
 ghost use Rattle.laws.specs.Refusals.{_⇒_, first};
 ghost use Rattle.access.specs.Errno.{EACCES};
 ghost use Rattle.access.specs.Limits.{maxEntries};
-ghost use Rattle.tables.specs.Tables.{before, pathRule};
+ghost use Rattle.tables.specs.Tables.{pathRule};
 ghost use Rattle.judge.specs.Rules.{rightsOn};
 ghost use Rattle.judge.specs.Judge.{grants};
 ghost use Rattle.judge.specs.Domain.{domain, lacks};
 ghost use Rattle.fs.specs.Move.{verdict};
 ghost use Rattle.tree.specs.declared.Replaced.the-variants.{None};
 ghost use Rattle.tree.specs.Moves.{renameMove};
-ghost use Rattle.sound.specs.Sound.{sound};
-ghost use Rattle.names.specs.Names.{namesSound};
 
 #[no_mangle]
 pub extern "C" fn skein_measure_rights_on(rules: &[u64], object: u64) -> u64
@@ -67,33 +64,4 @@ pub extern "C" fn skein_measure_rename(
 {
     let m = tree_moves::rename_move(entries, s, d, Replaced::None);
     move_denial(entries, layers, pool, threads, t, m).refusal()
-}
-
-#[no_mangle]
-pub extern "C" fn skein_measure_sound(
-    system: &[u64],
-    entries: &[u64],
-    rulesets: &[u64],
-    layers: &[u64],
-    pool: &[u64],
-    threads: &[u64],
-) -> u64
-    ensures { λ r. ⌜ r ≡ cond (sound (before system entries rulesets layers pool threads)) 1 0 ⌝ }
-{
-    if sound::is_sound(system, entries, rulesets, layers, pool, threads) {
-        1
-    } else {
-        0
-    }
-}
-
-#[no_mangle]
-pub extern "C" fn skein_measure_names(entries: &[u64], names: &[u8]) -> u64
-    ensures { λ r. ⌜ r ≡ cond (namesSound (now (entries .entry)) (now (names .entry))) 1 0 ⌝ }
-{
-    if sound_names::names_sound(entries, names) {
-        1
-    } else {
-        0
-    }
 }
