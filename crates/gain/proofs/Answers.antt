@@ -2,7 +2,6 @@
 use mathlib.Core.Path.{_≡_, refl, sym, ap, ap₂, subst, _∙_}
 use mathlib.Core.Bool.{Bool, true, false, cond, not, _||_}
 use mathlib.Core.List.{List, [], _∷_, _++_}
-use mathlib.Core.Logic.{_⊎_, inl, inr}
 use Prim.Native.Nat.{ℕ}
 use native.Mathlib.Omega.{arith}
 use lib.Dec.{eqb}
@@ -24,7 +23,6 @@ use Rattle.fs.specs.Move.{escaping, layerCrosses, verdict}
 use Rattle.fs.specs.Blame.{crossed, crossedMove}
 use Rattle.fs.proofs.Crossed.{crosses-any}
 use Rattle.theorems.specs.Calls.{Call, caller}
-use Rattle.theorems.specs.Claim.{domainOf}
 use Rattle.theorems.specs.Named.{verdictOn, Youngest, here, older, ByVerdict}
 use Rattle.named.specs.Named.{Named, namedSound}
 use Rattle.named.specs.Calls.{replyNamed, onCore}

@@ -1,5 +1,5 @@
 -- Link, rename and exchange as they are, with names: EXDEV is never needless. Assumes nothing.
-use mathlib.Core.Path.{_≡_, refl, sym, ap, _∙_}
+use mathlib.Core.Path.{_≡_, refl, sym}
 use mathlib.Core.Bool.{true, false}
 use mathlib.Core.List.{List, [], _∷_, _++_}
 use Prim.Native.Nat.{ℕ}
@@ -12,7 +12,6 @@ use Rattle.access.specs.Errno.{EPERM, EINVAL}
 use Rattle.tables.specs.Tables.{Tables, parent, live, isDir}
 use Rattle.tables.specs.Layers.{Layer}
 use Rattle.sound.proofs.Facts.{Sound, facts}
-use Rattle.tree.specs.declared.Replaced.{Replaced}
 use Rattle.tree.specs.Entries.{isAbove}
 use Rattle.tree.specs.Moves.{moveOf, replacedKind}
 use Rattle.tree.specs.Link.{linkVerdict, linkLater}
@@ -24,14 +23,14 @@ use Rattle.kept_tree.proofs.Climbs.{Avoids}
 use Rattle.kept_tree.proofs.Move.{nonzero, not-above}
 use Rattle.theorems.specs.Calls.{Call, caller}
 use Rattle.theorems.specs.Named.{verdictOn}
-use Rattle.names.specs.Names.{nameChecks, bearer}
+use Rattle.names.specs.Names.{nameChecks}
 use Rattle.names.proofs.Bearer.{bearer-cases}
 use Rattle.named.specs.Named.{Named}
 use Rattle.named.specs.Tree.{linkTarget, newName, linkBefore, linkNamedChecks, replacedBy, renameBefore, renameNamedChecks}
 use Rattle.named.specs.Calls.{onCore}
 use Rattle.named.specs.Layer.{refusalsNamed}
 use Rattle.named.proofs.Made.{core-sound, omits}
-use Rattle.gain.specs.Gain.{gained, ifMoved, renameGain, exchangeGain, linkGain}
+use Rattle.gain.specs.Gain.{gained, ifMoved, renameGain, linkGain}
 use Rattle.gain.specs.Claim.{linkCrossing, renameCrossing, exchangeCrossing, Judged, NeverNeedless}
 use Rattle.gain.proofs.Moves.{move-sharp, replaced-off, exchange-sharp, link-sharp, link-same}
 use Rattle.gain.proofs.Answers.{Parts, exact}

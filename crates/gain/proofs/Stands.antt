@@ -3,7 +3,7 @@ use mathlib.Core.Path.{_≡_, refl, sym, ap, ap₂, _∙_}
 use mathlib.Core.Bool.{Bool, true, false, not, _&&_, _||_}
 use mathlib.Core.List.{List}
 use Prim.Native.Nat.{ℕ, zero, suc}
-use Rattle.access.specs.Rights.{has, join, meet, without}
+use Rattle.access.specs.Rights.{has, meet, without}
 use Rattle.access.proofs.Laws.{has-join, has-meet, has-without, ext-has}
 use Rattle.tables.specs.Tables.{parent, object, live, pathRule}
 use Rattle.tables.specs.Layers.{Layer}
