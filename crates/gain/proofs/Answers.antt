@@ -84,21 +84,21 @@ module _ (N : Named) (c : Crossing) (P : Parts N c) where
   -- what a layer holds against the move
   held-is : Judged N c → (l : ℕ) → crossedMove (N .core) (c .move) l ≡ heldIn N c l
   unfolding crossed
-  held-is J l = rw (ne-eqb (c .move .source) (c .move .target) (J .apart), P .sharp J (layerOf N c l)) refl
+  held-is j l = rw (ne-eqb (c .move .source) (c .move .target) (j .apart), P .sharp j (layerOf N c l)) refl
 
   granted-is : Granted N c → (l : ℕ) → elem l (layers N c) ≡ true → heldIn N c l ≡ gainIn N c l
-  granted-is G l m =
-      let q : eqb (referIn N c l) 0 ≡ true = not-false (eqb (referIn N c l) 0) (any-none (λ k. not (eqb (referIn N c k) 0)) (layers N c) (G .refer) l m) in
+  granted-is g l m =
+      let q : eqb (referIn N c l) 0 ≡ true = not-false (eqb (referIn N c l) 0) (any-none (λ k. not (eqb (referIn N c k) 0)) (layers N c) (g .refer) l m) in
       rw q refl
 
   some-is : Judged N c → Granted N c → any (layerCrosses (N .core .entries) (N .core .layers) (N .core .pool) (c .move)) (layers N c) ≡ someGains N c
-  some-is J G = sym (crosses-any (N .core) (c .move) (layers N c))
-      ∙ some-same (crossedMove (N .core) (c .move)) (gainIn N c) (layers N c) (λ l m. held-is J l ∙ granted-is G l m)
+  some-is j g = sym (crosses-any (N .core) (c .move) (layers N c))
+      ∙ some-same (crossedMove (N .core) (c .move)) (gainIn N c) (layers N c) (λ l m. held-is j l ∙ granted-is g l m)
 
   -- ---- the verdict and the answer
   judged : Judged N c → Granted N c → first (c .verdict) ≡ cond (someGains N c) EXDEV 0
   unfolding verdict first
-  judged J G = rw (P .is-verdict, G .needs, some-is J G) refl
+  judged j g = rw (P .is-verdict, g .needs, some-is j g) refl
 
   verdict-refuses : Refusing (c .verdict)
   unfolding verdict
@@ -109,12 +109,12 @@ module _ (N : Named) (c : Crossing) (P : Parts N c) where
 
   answered : Judged N c → Granted N c → errorOf (replyNamed N (c .call)) ≡ cond (someGains N c) EXDEV (first (c .later))
   unfolding first
-  answered J G =
-      (rw (J .is-sound) at number) ∙ join-past (c .earlier) (c .verdict ++ c .later) (P .refusing) (J .passed)
-      ∙ over (someGains N c) (c .verdict) (c .later) verdict-refuses (judged J G)
+  answered j g =
+      (rw (j .is-sound) at number) ∙ join-past (c .earlier) (c .verdict ++ c .later) (P .refusing) (j .passed)
+      ∙ over (someGains N c) (c .verdict) (c .later) verdict-refuses (judged j g)
 
   only-then : Judged N c → Granted N c → someGains N c ≡ false → errorOf (replyNamed N (c .call)) ≡ EXDEV → ⊥
-  only-then J G n e = omits-first EXDEV (c .later) (P .later-omits) (λ z. omega arith) (sym (rw n at (answered J G)) ∙ e)
+  only-then j g n e = omits-first EXDEV (c .later) (P .later-omits) (λ z. omega arith) (sym (rw n at (answered j g)) ∙ e)
 
   -- ---- the layer
   told : {e : Errno} {l : ℕ} {r : Rights} → PassedOn N (c .call) e l r → e .0 ≡ EXDEV → Youngest (crossedMove (N .core) (c .move)) (layers N c) l (r .0)
@@ -132,18 +132,18 @@ module _ (N : Named) (c : Crossing) (P : Parts N c) where
       let y = told (layer-named .denied N (c .call) e l r h) z in
       let k : first (not (namedSound N) ⇒ EIO ∷ (c .earlier ++ (c .verdict ++ c .later))) ≡ EXDEV = sym number ∙ ap errorOf h ∙ z in
       let s : namedSound N ≡ true = split (namedSound N) (λ q. q) (λ q. absurd (let w : EIO ≡ EXDEV = rw q at k in omega arith)) in
-      let J : Judged N c = record {
+      let j : Judged N c = record {
         is-sound = s;
         passed = from-rest EXDEV (c .earlier) (c .verdict ++ c .later) (P .earlier-omits) (λ w. omega arith) (rw s at k);
         apart = λ w. youngest-set y .1 (youngest-set y .0 ∙ rw (eq-eqb (c .move .source) (c .move .target) w) refl);
       } in
-      (J, youngest-same (λ j m. held-is J j) y)
+      (j, youngest-same (λ i m. held-is j i) y)
 
   names-by : Judged N c → Granted N c → (r : Reply) → replyNamed N (c .call) ≡ r → errorOf r ≡ EXDEV → Names N c r
-  names-by J G (Done n) h z = absurd (omega arith)
-  names-by J G (Refused e) h z = absurd (layer-named .others N (c .call) e h .1 z)
-  names-by J G (Denied e l r) h z =
-      let y = youngest-same (λ j m. granted-is G j m) (why e l r h z .1) in
+  names-by j g (Done n) h z = absurd (omega arith)
+  names-by j g (Refused e) h z = absurd (layer-named .others N (c .call) e h .1 z)
+  names-by j g (Denied e l r) h z =
+      let y = youngest-same (λ i m. granted-is g i m) (why e l r h z .1) in
       let s = youngest-set y .0 in
       record {
         layer = l;
@@ -157,6 +157,6 @@ module _ (N : Named) (c : Crossing) (P : Parts N c) where
     judged = judged;
     answered = answered;
     only-then = only-then;
-    names = λ J G s. names-by J G (replyNamed N (c .call)) refl (answered J G ∙ rw s refl);
+    names = λ j g s. names-by j g (replyNamed N (c .call)) refl (answered j g ∙ rw s refl);
     why = why;
   }

@@ -46,11 +46,11 @@ one-way step es s d k2 L =
 
 -- ---- one thing moves
 module _ (T : Tables) (S : Sound T) (s d : ℕ) (source : live (T .entries) s ≡ true) (nz : 0 ≡ s → ⊥) (home : isDir (T .entries) d ≡ true) (away : Avoids (T .entries) s d) where
-  moved-sound : Sound (withEntries T (ifMoved (T .entries) s d))
-  moved-sound = facts (withEntries T (ifMoved (T .entries) s d)) (kept-move T S s d source nz home away)
-
   moved-to : parent (ifMoved (T .entries) s d) s ≡ d
   moved-to = parent-move (T .entries) s d (let w = S .tree .long in let l = S .tree .small s source in omega arith)
+
+  moved-sound : Sound (withEntries T (ifMoved (T .entries) s d))
+  moved-sound = facts (withEntries T (ifMoved (T .entries) s d)) (kept-move T S s d source nz home away)
 
   pub moved-stands : Stands (T .entries) (ifMoved (T .entries) s d) s s d
   moved-stands =

@@ -63,12 +63,12 @@ module _ (N : Named) where
 
     linkable : Judged N (linkCrossing N t s d n) → Linkable
     unfolding linkCrossing linkBefore linkTarget newName nameChecks
-    linkable J =
+    linkable j =
         let last = isDir es s ⇒ EPERM ∷ [] in
         record {
-          whole = facts T (core-sound N (J .is-sound));
-          fits = fit t s d (join-left (linkTarget es (N .core .threads) t s d) _ (J .passed));
-          file = passed last (join-right (linkBefore N t s d n) last tt (J .passed)) .0;
+          whole = facts T (core-sound N (j .is-sound));
+          fits = fit t s d (join-left (linkTarget es (N .core .threads) t s d) _ (j .passed));
+          file = passed last (join-right (linkBefore N t s d n) last tt (j .passed)) .0;
         }
 
     link-parts : Parts N (linkCrossing N t s d n)
@@ -83,11 +83,11 @@ module _ (N : Named) where
       only = refl;
       whose = refl;
       crosses = refl;
-      sharp = λ J. let k = linkable J in link-sharp T (k .whole) s d (k .fits .source) (k .fits .nz) (k .fits .home) (k .file);
+      sharp = λ j. let k = linkable j in link-sharp T (k .whole) s d (k .fits .source) (k .fits .nz) (k .fits .home) (k .file);
     }
 
     link-as-source : Judged N (linkCrossing N t s d n) → (L : Layer) → linkGain es s d L ≡ renameGain es s d L
-    link-as-source J = let k = linkable J in link-same T (k .whole) s d (k .fits .source) (k .fits .nz) (k .fits .home) (k .file)
+    link-as-source j = let k = linkable j in link-same T (k .whole) s d (k .fits .source) (k .fits .nz) (k .fits .home) (k .file)
 
   -- ---- rename
   module _ (t s d : ℕ) (n : List ℕ) where
@@ -98,14 +98,14 @@ module _ (N : Named) where
 
     movable : Judged N (renameCrossing N t s d n) → Movable
     unfolding renameCrossing renameBefore linkTarget nameChecks
-    movable J =
+    movable j =
         let last = isAbove es s d ⇒ EINVAL ∷ [] in
-        let k = facts T (core-sound N (J .is-sound)) in
-        let f = fit t s d (join-left (linkTarget es (N .core .threads) t s d) _ (J .passed)) in
+        let k = facts T (core-sound N (j .is-sound)) in
+        let f = fit t s d (join-left (linkTarget es (N .core .threads) t s d) _ (j .passed)) in
         record {
           whole = k;
           fits = f;
-          away = not-above T k s d (f .nz) (f .home) (passed last (join-right (renameBefore T t s d n) last tt (J .passed)) .0);
+          away = not-above T k s d (f .nz) (f .home) (passed last (join-right (renameBefore T t s d n) last tt (j .passed)) .0);
         }
 
     rename-parts : Parts N (renameCrossing N t s d n)
@@ -120,16 +120,16 @@ module _ (N : Named) where
       only = refl;
       whose = refl;
       crosses = refl;
-      sharp = λ J. let k = movable J in move-sharp T (k .whole) s d (k .fits .source) (k .fits .nz) (k .fits .home) (k .away) Rename (replacedKind es (replacedBy N d n));
+      sharp = λ j. let k = movable j in move-sharp T (k .whole) s d (k .fits .source) (k .fits .nz) (k .fits .home) (k .away) Rename (replacedKind es (replacedBy N d n));
     }
 
     replaced-unseen : Judged N (renameCrossing N t s d n) → (L : Layer) → gained es (dropped (ifMoved es s d) (replacedBy N d n)) L s s ≡ renameGain es s d L
     unfolding renameCrossing replacedBy dropped moveOf
-    replaced-unseen J L =
-        let k = movable J in
+    replaced-unseen j L =
+        let k = movable j in
         bearer-cases es (N .names) d n
         (λ q u. rw q refl)
-        (λ y q b. rw q (replaced-off T (k .whole) s d (k .fits .source) (k .fits .nz) (k .fits .home) (k .away) y (b .alive) (λ z. b .not-root (sym z)) (b .child) (J .apart) L))
+        (λ y q b. rw q (replaced-off T (k .whole) s d (k .fits .source) (k .fits .nz) (k .fits .home) (k .away) y (b .alive) (λ z. b .not-root (sym z)) (b .child) (j .apart) L))
 
   -- ---- exchange
   module _ (t s d x : ℕ) where
@@ -145,9 +145,9 @@ module _ (N : Named) where
       only = refl;
       whose = refl;
       crosses = refl;
-      sharp = λ J.
-          let k = facts T (core-sound N (J .is-sound)) in
-          let p = passed (exchangeNames T t s d x ++ exchangeShape es s d x) (J .passed) in
+      sharp = λ j.
+          let k = facts T (core-sound N (j .is-sound)) in
+          let p = passed (exchangeNames T t s d x ++ exchangeShape es s d x) (j .passed) in
           let source = not-false (live es s) (p .1 .0) in
           let other = not-false (live es x) (p .1 .1 .1 .0) in
           let q = p .1 .1 .1 .1 in
@@ -156,7 +156,7 @@ module _ (N : Named) where
           let home = not-false (isDir es d) (q .1 .1 .0) in
           exchange-sharp T k s d x source nz home (not-above T k s d nz home (q .1 .1 .1 .1 .0)) other nx
           (eqb-true (parent es x) d (not-false (eqb (parent es x) d) (q .1 .1 .1 .0)))
-          (not-above T k x (parent es s) nx (k .tree .in-dir s source) (q .1 .1 .1 .1 .1 .0)) (J .apart);
+          (not-above T k x (parent es s) nx (k .tree .in-dir s source) (q .1 .1 .1 .1 .1 .0)) (j .apart);
     }
 
 pub never-needless : NeverNeedless

@@ -60,11 +60,6 @@ module _ (es es′ : List ℕ) (e e′ d next : ℕ) (Z : Tree es next) (alive :
   own = rightsOn (L .rules) pathRule (object es e)
 
   module _ (i : ℕ) where
-    has-gained : has (gained es es′ L e e′) i ≡ ((has (entryRights es e) i && has (denied es L e) i) && not (has (denied es′ L e′) i))
-    unfolding gained
-    has-gained = has-without (meet (entryRights es e) (denied es L e)) (denied es′ L e′) i
-        ∙ ap (λ (b : Bool). b && not (has (denied es′ L e′) i)) (has-meet (entryRights es e) (denied es L e) i)
-
     has-uncontained : has (uncontained es L (parent es e) d (object es e) (entryRights es e)) i
         ≡ (((has (entryRights es e) i && (has (handled L) i && not (has (granted es L (parent es e)) i))) && not (has own i)) && not (has (handled L) i && not (has (granted es L d) i)))
     unfolding uncontained
@@ -80,9 +75,14 @@ module _ (es es′ : List ℕ) (e e′ d next : ℕ) (Z : Tree es next) (alive :
 
     -- one right
     pub sharp-right : has (uncontained es L (parent es e) d (object es e) (entryRights es e)) i ≡ has (gained es es′ L e e′) i
-    sharp-right = has-uncontained
-        ∙ both-ways (has (entryRights es e) i) (has (handled L) i) (has own i) (has (granted es L (parent es e)) i) (has (granted es L d) i)
-        ∙ sym (has-gained ∙ ap₂ (λ (a b : Bool). (has (entryRights es e) i && a) && not b) (denied-up es next Z L e i alive not-root) denied-there)
+    unfolding gained
+    sharp-right =
+        let rights = entryRights es e in
+        has-uncontained
+        ∙ both-ways (has rights i) (has (handled L) i) (has own i) (has (granted es L (parent es e)) i) (has (granted es L d) i)
+        ∙ ap₂ (λ (a b : Bool). (has rights i && a) && not b) (sym (denied-up es next Z L e i alive not-root)) (sym denied-there)
+        ∙ ap (λ (b : Bool). b && not (has (denied es′ L e′) i)) (sym (has-meet rights (denied es L e) i))
+        ∙ sym (has-without (meet rights (denied es L e)) (denied es′ L e′) i)
 
   -- all rights of the layer: the set that fails containment is the set gained
   pub sharp : uncontained es L (parent es e) d (object es e) (entryRights es e) ≡ gained es es′ L e e′
