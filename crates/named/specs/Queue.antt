@@ -1,7 +1,8 @@
 -- Document 02, W14: a turn of the queue on tables with names.
 use Prim.Native.Nat.{ℕ}
 use Rattle.codes.specs.Codes.{said}
-use Rattle.queue.specs.Queue.{Queue, Answer, turn, servedReply}
+use Rattle.queue.specs.declared.Answer.{Answer}
+use Rattle.queue.specs.Queue.{Queue, turn, servedReply}
 use Rattle.fs_access.specs.Access.{accessCall, accessCount}
 use Rattle.named.specs.Named.{Named, NamedOutcome, namedOutcome, lift, liftCount}
 

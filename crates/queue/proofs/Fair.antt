@@ -15,8 +15,9 @@ use Rattle.laws.proofs.Tests.{all-at}
 use Rattle.laws.proofs.Refusals.{passed}
 use Rattle.laws.proofs.Cells.{past}
 use Rattle.access.specs.declared.errno.Reply.the-variants.{Done}
+use Rattle.queue.specs.declared.Answer.{Answer}
 use Rattle.queue.specs.declared.Served.the-variants.{Slot}
-use Rattle.queue.specs.Queue.{Queue, Answer, slots, waiting, answered, stateAt, queueSound, postChecks, putIn, post, next, seek, nextWaiting, serve, Turned, turn}
+use Rattle.queue.specs.Queue.{Queue, slots, waiting, answered, stateAt, queueSound, postChecks, putIn, post, next, seek, nextWaiting, serve, Turned, turn}
 use Rattle.queue.specs.Events.{Event, posts, turns, step, turnsIn, Serves, Fair}
 use Rattle.queue.proofs.Sound.{Good, good, sound-of, post-cases, turn-cases, put-good, serve-good, kept}
 

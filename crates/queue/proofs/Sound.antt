@@ -15,8 +15,9 @@ use Rattle.laws.proofs.Tests.{all-at, all-of, allOf-at, allOf-of, met, _also_}
 use Rattle.access.specs.Errno.{EIO}
 use Rattle.access.specs.declared.errno.Errno.{Errno}
 use Rattle.access.specs.declared.errno.Reply.the-variants.{Done, Refused}
+use Rattle.queue.specs.declared.Answer.{Answer}
 use Rattle.queue.specs.declared.Served.the-variants.{Slot, Idle, Refused as TurnRefused}
-use Rattle.queue.specs.Queue.{Queue, Answer, slots, requestWidth, answerWidth, waiting, answered, knownState, queueSound, postChecks, putRequest, putIn, Posted, posted, post, nextWaiting, putAnswer, serve, Turned, turned, turn}
+use Rattle.queue.specs.Queue.{Queue, slots, requestWidth, answerWidth, waiting, answered, knownState, queueSound, postChecks, putRequest, putIn, Posted, posted, post, nextWaiting, putAnswer, serve, Turned, turned, turn}
 use Rattle.queue.specs.Events.{Event, posts, turns, step}
 
 -- ---- soundness, part by part

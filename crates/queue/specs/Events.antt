@@ -5,8 +5,9 @@ use mathlib.Core.List.{List, [], _∷_}
 use mathlib.Core.Logic.{_⊎_}
 use Prim.Native.Nat.{ℕ, suc}
 use Rattle.access.specs.declared.errno.Reply.the-variants.{Done}
+use Rattle.queue.specs.declared.Answer.{Answer}
 use Rattle.queue.specs.declared.Served.the-variants.{Slot}
-use Rattle.queue.specs.Queue.{Queue, Answer, slots, waiting, stateAt, queueSound, post, turn}
+use Rattle.queue.specs.Queue.{Queue, slots, waiting, stateAt, queueSound, post, turn}
 
 -- what is done to a queue; each turn has the tables' answers of its own moment
 pub data Event : Type 0 where

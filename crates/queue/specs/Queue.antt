@@ -10,6 +10,7 @@ use Rattle.laws.specs.Cells.{cell, putCell}
 use Rattle.access.specs.Errno.{EIO, EAGAIN, EINVAL}
 use Rattle.access.specs.declared.errno.Reply.{Reply}
 use Rattle.access.specs.declared.errno.Reply.the-variants.{Done, Refused}
+use Rattle.queue.specs.declared.Answer.{Answer}
 use Rattle.queue.specs.declared.Served.{Served}
 use Rattle.queue.specs.declared.Served.the-variants.{Slot, Idle, Refused as TurnRefused}
 
@@ -41,13 +42,6 @@ pub record Queue : Type 0 where
 
 abbrev pub queue : List ℕ → List ℕ → List ℕ → ℕ → Queue
 queue rs ss xs c = record { requests = rs; states = ss; answers = xs; cursor = c }
-
--- what the tables answer a request
-pub record Answer : Type 0 where
-  pub error : ℕ
-  pub layer : ℕ
-  pub rights : ℕ
-  pub read : ℕ
 
 abbrev pub stateAt : List ℕ → ℕ → ℕ
 stateAt ss k = getD ss k 0

@@ -15,7 +15,7 @@ pub const SLOTS: usize = 8;
 // The cells of a request: thread, entry, rights.
 pub const REQUEST_WIDTH: usize = 3;
 
-// The cells of an answer: error number or 0, layer, rights, entries read.
+// The cells of an answer, as `Answer` has them.
 pub const ANSWER_WIDTH: usize = 4;
 
 // The cells of all requests, and of all answers.
@@ -27,6 +27,14 @@ pub const ANSWERS_CELLS: usize = ANSWER_WIDTH * SLOTS;
 pub const WAITING: u64 = 1;
 
 pub const ANSWERED: u64 = 2;
+
+// What the tables answer a request: error number or 0, layer as a number + 1 or 0, rights, entries read.
+pub struct Answer {
+    pub error: u64,
+    pub layer: u64,
+    pub rights: u64,
+    pub read: u64,
+}
 
 // What a turn says.
 pub enum Served {
