@@ -7,7 +7,7 @@ use cells::write;
 ghost use mathlib.Core.Path.{_≡_};
 ghost use Rattle.laws.specs.Tests.{allBelow};
 ghost use Rattle.laws.specs.Refusals.{first};
-ghost use Rattle.queue.specs.Queue.{queue, slots, knownState, queueSound, postChecks, putRequest, posted, next, nextWaiting};
+ghost use Rattle.queue.specs.Queue.{queue, slots, knownState, queueSound, postChecks, putRequest, posted, next, nextWaiting, putAnswer, servedReply};
 ghost use Rattle.queue.specs.Queue.{post as postOf};
 
 pub const SLOTS: usize = 8;
@@ -122,6 +122,16 @@ pub fn post(
     Reply::Done(0)
 }
 
+// Writes the answer of a slot.
+pub fn put_answer(answers: &mut [u64], slot: usize, a: Answer)
+    ensures { λ r. ⌜ now (answers .exit) ≡ putAnswer (now (answers .entry)) slot a ⌝ }
+{
+    row_write(answers, ANSWER_WIDTH, slot, 0, a.error);
+    row_write(answers, ANSWER_WIDTH, slot, 1, a.layer);
+    row_write(answers, ANSWER_WIDTH, slot, 2, a.rights);
+    row_write(answers, ANSWER_WIDTH, slot, 3, a.read);
+}
+
 // The slot after a slot, going round.
 fn next_slot(c: u64) -> u64
     ensures { λ r. ⌜ r ≡ next c ⌝ }
@@ -143,4 +153,15 @@ pub fn next_waiting(states: &[u64], cursor: u64) -> u64
         n -= 1;
     }
     SLOTS as u64
+}
+
+// The reply that stands for what a turn says: the slot's number, or 8 if none waits.
+pub fn served_reply(said: Served) -> Reply
+    ensures { λ r. ⌜ r ≡ servedReply said ⌝ }
+{
+    match said {
+        Served::Slot(k) => Reply::Done(k),
+        Served::Idle => Reply::Done(SLOTS as u64),
+        Served::Refused(e) => Reply::Refused(e),
+    }
 }
