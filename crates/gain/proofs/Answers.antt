@@ -26,7 +26,7 @@ use Rattle.theorems.specs.Calls.{Call, caller}
 use Rattle.theorems.specs.Named.{verdictOn, Youngest, here, older, ByVerdict}
 use Rattle.named.specs.Named.{Named, namedSound}
 use Rattle.named.specs.Calls.{replyNamed, onCore}
-use Rattle.named.specs.Layer.{refusalsNamed, PassedOn}
+use Rattle.named.specs.Layer.{faulty, refusalsNamed, PassedOn}
 use Rattle.named.proofs.Made.{omits, omits-first}
 use Rattle.named.proofs.Layer.{layer-named}
 use Rattle.gain.specs.Claim.{Crossing, layers, layerOf, gainIn, someGains, referIn, heldIn, Judged, Granted, Names, Exact}
@@ -66,7 +66,8 @@ from-rest n xs ys o z e = split (eqb (first xs) 0)
 
 -- ---- what is asked of a call
 pub record Parts (N : Named) (c : Crossing) : Type 0 where
-  -- its refusals are the three lists; none of those around the verdict is EXDEV
+  -- its refusals are the three lists, after that of unsound tables; none of those around the verdict is EXDEV
+  pub unsound-first : faulty N (c .call) ≡ not (namedSound N)
   pub refusals : refusalsNamed N (c .call) ≡ c .earlier ++ (c .verdict ++ c .later)
   pub refusing : Refusing (c .earlier)
   pub earlier-omits : omits EXDEV (c .earlier) ≡ true
@@ -105,7 +106,7 @@ module _ (N : Named) (c : Crossing) (P : Parts N c) where
   verdict-refuses = rw (P .is-verdict) tt
 
   number : errorOf (replyNamed N (c .call)) ≡ first (not (namedSound N) ⇒ EIO ∷ (c .earlier ++ (c .verdict ++ c .later)))
-  number = layer-named .number N (c .call) ∙ rw (P .refusals) refl
+  number = layer-named .number N (c .call) ∙ rw (P .unsound-first, P .refusals) refl
 
   answered : Judged N c → Granted N c → errorOf (replyNamed N (c .call)) ≡ cond (someGains N c) EXDEV (first (c .later))
   unfolding first

@@ -28,7 +28,7 @@ use Rattle.names.proofs.Bearer.{bearer-cases}
 use Rattle.named.specs.Named.{Named}
 use Rattle.named.specs.Tree.{linkTarget, newName, linkBefore, linkNamedChecks, replacedBy, renameBefore, renameNamedChecks}
 use Rattle.named.specs.Calls.{onCore}
-use Rattle.named.specs.Layer.{refusalsNamed}
+use Rattle.named.specs.Layer.{faulty, refusalsNamed}
 use Rattle.named.proofs.Made.{core-sound, omits}
 use Rattle.gain.specs.Gain.{gained, ifMoved, renameGain, linkGain}
 use Rattle.gain.specs.Claim.{linkCrossing, renameCrossing, exchangeCrossing, Judged, NeverNeedless}
@@ -72,8 +72,9 @@ module _ (N : Named) where
         }
 
     link-parts : Parts N (linkCrossing N t s d n)
-    unfolding linkCrossing linkBefore linkTarget newName nameChecks linkNamedChecks linkVerdict linkLater refusalsNamed omits onCore caller verdictOn moveOf
+    unfolding linkCrossing linkBefore linkTarget newName nameChecks linkNamedChecks linkVerdict linkLater faulty refusalsNamed omits onCore caller verdictOn moveOf
     link-parts = record {
+      unsound-first = refl;
       refusals = refl;
       refusing = tt;
       earlier-omits = refl;
@@ -109,8 +110,9 @@ module _ (N : Named) where
         }
 
     rename-parts : Parts N (renameCrossing N t s d n)
-    unfolding renameCrossing renameBefore linkTarget nameChecks renameNamedChecks renameVerdict renameLater refusalsNamed omits onCore caller verdictOn moveOf
+    unfolding renameCrossing renameBefore linkTarget nameChecks renameNamedChecks renameVerdict renameLater faulty refusalsNamed omits onCore caller verdictOn moveOf
     rename-parts = record {
+      unsound-first = refl;
       refusals = refl;
       refusing = tt;
       earlier-omits = refl;
@@ -134,8 +136,9 @@ module _ (N : Named) where
   -- ---- exchange
   module _ (t s d x : ℕ) where
     exchange-parts : Parts N (exchangeCrossing N t s d x)
-    unfolding exchangeCrossing exchangeNames exchangeShape exchangeVerdict verdict exchangeChecks refusalsNamed omits onCore caller verdictOn moveOf
+    unfolding exchangeCrossing exchangeNames exchangeShape exchangeVerdict verdict exchangeChecks faulty refusalsNamed omits onCore caller verdictOn moveOf
     exchange-parts = record {
+      unsound-first = refl;
       refusals = refl;
       refusing = tt;
       earlier-omits = refl;
