@@ -133,7 +133,9 @@ module _ (N : Named) where
 
   number-turn : (Q : Queue) → errorOf (replyNamed N (turn Q)) ≡ full (turn Q)
   unfolding outcomeNamed turnNamed servedReply first faulty refusalsNamed
-  number-turn Q = turn-cases (answerOf N) Q (λ (p : Turned). errorOf (servedReply (p .said)) ≡ full (turn Q)) (λ s l. rw s refl) (λ s l. rw s refl) (λ s. rw s refl)
+  number-turn Q =
+      let told : Bool → ℕ = λ b. first (not b ⇒ EIO ∷ []) in
+      turn-cases (answerOf N) Q (λ (p : Turned). errorOf (servedReply (p .said)) ≡ full (turn Q)) (λ s l. ap told (sym s)) (λ s l. ap told (sym s)) (λ s. ap told (sym s))
 
   number : (c : NamedCall) → errorOf (replyNamed N c) ≡ full c
   unfolding outcomeNamed faulty refusalsNamed createNamed createNamedChecks createWay removeNamed removeWay linkNamed linkNamedChecks linkWay renameNamed renameNamedChecks renameWay exchangeNamed exchangeWay

@@ -17,8 +17,9 @@ use Rattle.laws.proofs.Cells.{past}
 use Rattle.access.specs.declared.errno.Reply.the-variants.{Done}
 use Rattle.queue.specs.declared.Answer.{Answer}
 use Rattle.queue.specs.declared.Served.the-variants.{Slot}
-use Rattle.queue.specs.Queue.{Queue, slots, waiting, answered, stateAt, queueSound, postChecks, putIn, post, next, seek, nextWaiting, serve, Turned, turn}
+use Rattle.queue.specs.Queue.{Queue, slots, waiting, answered, stateAt, queueSound, postChecks, putIn, post, next, seek, nextWaiting, serve, Turned}
 use Rattle.queue.specs.Events.{Event, posts, turns, step, turnsIn, Serves, Fair}
+use Rattle.queue.proofs.Seeks.{seek-step}
 use Rattle.queue.proofs.Sound.{Good, good, sound-of, post-cases, turn-cases, put-good, serve-good, kept}
 
 -- ---- the measure
@@ -54,16 +55,16 @@ further f = record { small = f .small; which = either (f .which) (λ e. inl e) (
 
 module _ (ss : List ℕ) (k : ℕ) (w : stateAt ss k ≡ waiting) where
   finds : (n m c : ℕ) → reaches n c k ≡ true → n ≤ m → Finds (seek ss m c) n k
-  unfolding reaches seek
+  unfolding reaches
   finds zero m c r l = clash false r refl
   finds (suc n) zero c r l = absurd (omega arith)
   finds (suc n) (suc m) c r l =
       split (eqb (stateAt ss (next c)) waiting)
-      (λ q. rw q (record {
+      (λ q. rw (seek-step ss m c, q) (record {
         small = next-small c;
         which = either (or-cases (eqb (next c) k) (reaches n (next c) k) r) (λ e. inl (eqb-true (next c) k e)) (λ t. inr (record { steps = n; less = omega arith; still = t }));
       }))
-      (λ q. rw q (further (finds n m (next c)
+      (λ q. rw (seek-step ss m c, q) (further (finds n m (next c)
       (either (or-cases (eqb (next c) k) (reaches n (next c) k) r)
       (λ e. clash (eqb (stateAt ss (next c)) waiting) (eq-eqb (stateAt ss (next c)) waiting (ap (stateAt ss) (eqb-true (next c) k e) ∙ w)) q)
       (λ t. t)) (omega arith))))

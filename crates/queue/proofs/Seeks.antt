@@ -1,9 +1,10 @@
 -- The search for the next waiting slot: what is left of it decides; and how code comes to a post. Assumes nothing.
 use mathlib.Core.Path.{_≡_, refl, sym, ap, _∙_}
+use mathlib.Core.Bool.{cond}
 use mathlib.Core.List.{List}
 use Prim.Native.Nat.{ℕ, zero, suc, _-_, _+_, _<_, _≤_}
 use native.Mathlib.Numerals.{sub-one, add-one}
-use lib.Dec.{eqb, ltb}
+use lib.Dec.{eqb}
 use lib.ListN.{set}
 use borrow.Author.Tests.{eq-eqb, ne-eqb, lt-ltb, le-ltb}
 use Rattle.laws.specs.Refusals.{first}
@@ -19,15 +20,18 @@ unfolding next
 next-round c l = rw (le-ltb c 7 l)
 
 module _ (ss : List ℕ) where
-  pub seek-hit : {w a v : ℕ} (n c : ℕ) → w ≡ seek ss n c → (n ≡ 0 → ⊥) → a ≡ next c → v ≡ stateAt ss a → v ≡ waiting → a ≡ w
+  -- the first slot looked at is the next one
+  pub seek-step : (n c : ℕ) → seek ss (suc n) c ≡ cond (eqb (stateAt ss (next c)) waiting) (next c) (seek ss n (next c))
   unfolding seek
+  seek-step n c = refl
+
+  pub seek-hit : {w a v : ℕ} (n c : ℕ) → w ≡ seek ss n c → (n ≡ 0 → ⊥) → a ≡ next c → v ≡ stateAt ss a → v ≡ waiting → a ≡ w
   seek-hit zero c i z e s v = absurd (z refl)
-  seek-hit (suc n) c i z e s v = sym (i ∙ rw (eq-eqb (stateAt ss (next c)) waiting (ap (stateAt ss) (sym e) ∙ sym s ∙ v)) (sym e))
+  seek-hit (suc n) c i z e s v = sym (i ∙ seek-step n c ∙ rw (eq-eqb (stateAt ss (next c)) waiting (ap (stateAt ss) (sym e) ∙ sym s ∙ v)) (sym e))
 
   pub seek-on : {w a v : ℕ} (n c : ℕ) → w ≡ seek ss n c → (n ≡ 0 → ⊥) → a ≡ next c → v ≡ stateAt ss a → (v ≡ waiting → ⊥) → w ≡ seek ss (n - 1) a
-  unfolding seek
   seek-on zero c i z e s v = absurd (z refl)
-  seek-on (suc n) c i z e s v = i ∙ rw (sub-one (suc n), e, ne-eqb (stateAt ss (next c)) waiting (λ q. v (s ∙ ap (stateAt ss) e ∙ q))) refl
+  seek-on (suc n) c i z e s v = i ∙ seek-step n c ∙ rw (sub-one (suc n), e, ne-eqb (stateAt ss (next c)) waiting (λ q. v (s ∙ ap (stateAt ss) e ∙ q))) refl
 
   pub seek-end : {w : ℕ} (n c : ℕ) → w ≡ seek ss n c → n ≡ 0 → slots ≡ w
   unfolding seek

@@ -1,5 +1,5 @@
 -- What a post and a turn leave, case by case; and that they keep a queue sound. Assumes nothing.
-use mathlib.Core.Path.{_≡_, _∙_}
+use mathlib.Core.Path.{_≡_, refl, ap, _∙_}
 use mathlib.Core.Bool.{Bool, true, false}
 use mathlib.Core.List.{List, [], _∷_}
 use Prim.Native.Nat.{ℕ, _*_, _<_, _≤_}
@@ -91,13 +91,18 @@ answer-length : (xs : List ℕ) (k : ℕ) (a : Answer) → length (putAnswer xs 
 unfolding putAnswer
 answer-length xs k a = simp length-set
 
+-- "A post writes only request and state"
+answers-stay : (Q : Queue) (k t e m : ℕ) → putIn Q k t e m .answers ≡ Q .answers
+unfolding putIn
+answers-stay Q k t e m = refl
+
 pub put-good : (Q : Queue) (k t e m : ℕ) → Good Q → Good (putIn Q k t e m)
 unfolding putIn
 put-good Q k t e m g = record {
   cursor = g .cursor;
   requests = request-length (Q .requests) k t e m ∙ g .requests;
   states = length-set (Q .states) k waiting ∙ g .states;
-  answers = g .answers;
+  answers = ap length (answers-stay Q k t e m) ∙ g .answers;
   known = known-set (Q .states) k waiting (omega arith) (g .states) (g .known);
 }
 

@@ -1,4 +1,4 @@
--- Document 02, W14: a queue of eight slots. What the request calls a seat is a slot here, and its hand the cursor.
+-- Document 02, W14: a queue of eight slots. What the request calls a "seat" is a slot here, and its "hand" the cursor.
 use mathlib.Core.Bool.{Bool, cond, not}
 use mathlib.Core.List.{List, [], _∷_}
 use Prim.Native.Nat.{ℕ, zero, suc, _*_}

@@ -1,5 +1,5 @@
 -- How code comes to an answer and to a turn. Assumes nothing.
-use mathlib.Core.Path.{_≡_, refl, sym, ap, _∙_}
+use mathlib.Core.Path.{_≡_, sym, ap, _∙_}
 use mathlib.Core.Bool.{Bool, true, false, not}
 use Prim.Native.Nat.{ℕ, _<_, _≤_}
 use borrow.Author.Tests.{not-true, not-false, lt-ltb, le-ltb}
@@ -11,7 +11,7 @@ use Rattle.queue.specs.declared.Served.{Served}
 use Rattle.queue.specs.declared.Served.the-variants.{Slot, Idle, Refused}
 use Rattle.queue.specs.Queue.{Queue, queue, slots, queueSound, nextWaiting, serve, Turned, turned, turn, servedReply}
 use Rattle.fs_access.specs.Access.{accessCall, accessCount}
-use Rattle.named.specs.Named.{Named, NamedOutcome, namedOutcome, lift, liftCount}
+use Rattle.named.specs.Named.{Named, namedOutcome, lift, liftCount}
 use Rattle.named.specs.Queue.{answerOf, turnNamed}
 
 -- ---- an answer, by the reply and the entries read
