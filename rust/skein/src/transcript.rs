@@ -3,7 +3,7 @@ use crate::json::Json;
 use crate::lines::{broken, Row};
 use crate::paint::Paint;
 use crate::play::{Play, Played};
-use crate::scenario::{written, Answer, Call, Mask, Report, RulesetCall, Space};
+use crate::scenario::{written, Answer, Call, Mask, Report, RulesetCall, SlotReport, Space};
 use crate::words::{cut, shown};
 use skeinrabbit::{Errno, Layer, Rights, Rule};
 
@@ -79,6 +79,11 @@ pub fn reason(played: &Played) -> Option<String> {
         return Some(format!("{errno}: {denial}"));
     }
     let reason = match (&played.statement.call, errno) {
+        (Call::Queue(_), Errno::EIO) => "the queue is not sound",
+        (Call::Queue(_), Errno::EINVAL) => "there is no such slot",
+        (Call::Queue(_), Errno::EAGAIN) => "a request waits in the slot",
+        (_, Errno::EIO) => "the tables are not sound",
+        (_, Errno::EAGAIN) => "no free thread",
         (Call::Ruleset(RulesetCall::Restrict { .. }), Errno::EPERM) => {
             "the thread has neither no_new_privs nor admin set"
         }
@@ -103,6 +108,26 @@ fn denial(played: &Played) -> Option<String> {
         }
         _ => format!("layer {layer} denies {rights}"),
     })
+}
+
+/// The request of a slot that was served or read and its answer, in words; of a slot that is not answered what its answer's
+/// cells hold.
+fn slot_lines(played: &Played) -> Vec<String> {
+    let Some(slot) = played.report.and_then(|report| report.slot) else {
+        return Vec::new();
+    };
+    let SlotReport {
+        thread,
+        entry,
+        rights,
+        ..
+    } = slot;
+    let what = if slot.answered { "answer" } else { "kept" };
+    let why = denial(played).map_or(String::new(), |denial| format!(": {denial}"));
+    vec![
+        format!("request: thread {thread}, entry {entry}, {rights}"),
+        format!("{what}: {}{why}", slot.answer()),
+    ]
 }
 
 /// How far a line that goes on is indented.
@@ -185,13 +210,21 @@ impl Layout {
 
 /// How many entries' rules an access read, in words.
 fn entries_read(played: &Played) -> Option<String> {
-    let read = played.report?.entries_read?;
+    let report = played.report?;
+    let read = report.entries_read?;
+    if report.slot.is_some_and(|slot| !slot.answered) {
+        return None;
+    }
     let noun = if read == 1 { "entry" } else { "entries" };
     Some(format!("rules of {read} {noun} read"))
 }
 
 /// What stands below a call: why it was refused, if that differs or a layer did it, and the rules of a layer.
 fn below(played: &Played) -> Vec<String> {
+    let slot = slot_lines(played);
+    if !slot.is_empty() {
+        return slot;
+    }
     let why = if played.differs() {
         reason(played)
     } else {
@@ -257,6 +290,8 @@ pub fn call_json(played: &Played) -> Json {
     let (number, errno) = match played.answer {
         Answer::Done => (Some(0), None),
         Answer::New(number) | Answer::Found(number) => (Some(number), None),
+        Answer::Served(slot) => (Some(slot.number()), None),
+        Answer::Idle | Answer::State(_) => (None, None),
         Answer::Refused(errno) => (None, Some(errno)),
     };
     let (layer, rights) = named(played).unzip();
@@ -297,6 +332,27 @@ pub fn call_json(played: &Played) -> Json {
             Json::option(played.report.and_then(|report| report.part), |part| {
                 part_json(part, &played.part)
             }),
+        ),
+        (
+            "slot",
+            Json::option(played.report.and_then(|report| report.slot), slot_json),
+        ),
+    ])
+}
+
+/// A slot that was served or read: its request, and its answer or what the cells of one hold.
+fn slot_json(slot: SlotReport) -> Json {
+    let errno = slot.answer.err();
+    Json::Object(vec![
+        ("slot", Json::Number(slot.slot.number())),
+        ("thread", Json::Number(slot.thread.number())),
+        ("entry", Json::Number(slot.entry.number())),
+        ("rights", rights_json(slot.rights.iter())),
+        ("answered", Json::Bool(slot.answered)),
+        ("answer", Json::text(slot.answer().to_string())),
+        (
+            "errno",
+            Json::option(errno, |errno| Json::Number(errno.number().into())),
         ),
     ])
 }
