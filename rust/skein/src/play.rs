@@ -404,7 +404,7 @@ impl Player {
             thread: row.thread,
             entry: row.entry,
             rights: row.rights,
-            answered: row.state == SlotState::Answered,
+            state: row.state,
             answer: match answer {
                 Answer::Refused(errno) => Err(errno),
                 _ => Ok(()),

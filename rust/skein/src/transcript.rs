@@ -5,7 +5,7 @@ use crate::paint::Paint;
 use crate::play::{Play, Played};
 use crate::scenario::{written, Answer, Call, Mask, Report, RulesetCall, SlotReport, Space};
 use crate::words::{cut, shown};
-use skeinrabbit::{Errno, Layer, Rights, Rule};
+use skeinrabbit::{Errno, Layer, Rights, Rule, SlotState};
 
 /// All calls, and how many answers differ; with more words, what each access read.
 pub fn text(play: &Play, width: usize, verbose: bool, paint: Paint) -> String {
@@ -113,7 +113,8 @@ fn denial(played: &Played) -> Option<String> {
 /// The request of a slot that was served or read and its answer, in words; of a slot that is not answered what its answer's
 /// cells hold.
 fn slot_lines(played: &Played) -> Vec<String> {
-    let Some(slot) = played.report.and_then(|report| report.slot) else {
+    let slot = played.report.and_then(|report| report.slot);
+    let Some(slot) = slot.filter(|slot| slot.state != SlotState::Empty) else {
         return Vec::new();
     };
     let SlotReport {
@@ -122,7 +123,7 @@ fn slot_lines(played: &Played) -> Vec<String> {
         rights,
         ..
     } = slot;
-    let what = if slot.answered { "answer" } else { "kept" };
+    let what = if slot.is_answered() { "answer" } else { "kept" };
     let why = denial(played).map_or(String::new(), |denial| format!(": {denial}"));
     vec![
         format!("request: thread {thread}, entry {entry}, {rights}"),
@@ -191,13 +192,19 @@ impl Layout {
         row.cell(self.line.saturating_sub(number.len()), &number, plain);
         row.fill(self.text, &call_text(played, self.room));
         row.cell(self.answer, &answer(played, self.room), plain);
+        let mut wide = String::new();
         if played.differs() {
             let verdict = format!("DIFFERS: {}", verdict(played));
-            row.cell(self.verdict, &verdict, |text| paint.differing(text));
+            if indent + verdict.chars().count() > self.width {
+                wide = self.wide(&verdict, indent, paint);
+            } else {
+                row.cell(self.verdict, &verdict, |text| paint.differing(text));
+            }
         } else if statement.names_an_answer() {
             row.cell(self.verdict, "ok", |text| paint.granted(text));
         }
         let mut out = row.end();
+        out.push_str(&wide);
         let read = entries_read(played).filter(|_| self.verbose);
         for line in below(played).into_iter().chain(read) {
             let mut row = Row::new(indent + INDENT, self.width);
@@ -208,11 +215,26 @@ impl Layout {
     }
 }
 
+impl Layout {
+    /// A verdict that has no room in one line.
+    fn wide(&self, verdict: &str, indent: usize, paint: Paint) -> String {
+        let mut row = Row::new(indent + INDENT, self.width);
+        row.fill(indent, verdict);
+        let lines = row.end();
+        let painted = lines.lines().map(|line| {
+            let words = line.trim_start_matches(' ');
+            let blanks = " ".repeat(line.len() - words.len());
+            format!("{blanks}{}\n", paint.differing(words))
+        });
+        painted.collect()
+    }
+}
+
 /// How many entries' rules an access read, in words.
 fn entries_read(played: &Played) -> Option<String> {
     let report = played.report?;
     let read = report.entries_read?;
-    if report.slot.is_some_and(|slot| !slot.answered) {
+    if report.slot.is_some_and(|slot| !slot.is_answered()) {
         return None;
     }
     let noun = if read == 1 { "entry" } else { "entries" };
@@ -348,7 +370,7 @@ fn slot_json(slot: SlotReport) -> Json {
         ("thread", Json::Number(slot.thread.number())),
         ("entry", Json::Number(slot.entry.number())),
         ("rights", rights_json(slot.rights.iter())),
-        ("answered", Json::Bool(slot.answered)),
+        ("answered", Json::Bool(slot.is_answered())),
         ("answer", Json::text(slot.answer().to_string())),
         (
             "errno",

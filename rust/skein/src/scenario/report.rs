@@ -2,7 +2,7 @@
 use super::answer::Answer;
 use super::arguments::{number, value};
 use super::Bad;
-use skeinrabbit::{Entry, Errno, Layer, PortRights, Rights, Slot, Thread};
+use skeinrabbit::{Entry, Errno, Layer, PortRights, Rights, Slot, SlotState, Thread};
 use std::fmt;
 
 /// Which layer refused, and for which rights; no layer and no rights where none did.
@@ -25,12 +25,16 @@ pub struct SlotReport {
     pub thread: Thread,
     pub entry: Entry,
     pub rights: Rights,
-    /// Whether the answer is that of the request.
-    pub answered: bool,
+    pub state: SlotState,
     pub answer: Result<(), Errno>,
 }
 
 impl SlotReport {
+    /// Whether the answer is that of the request.
+    pub fn is_answered(&self) -> bool {
+        self.state == SlotState::Answered
+    }
+
     /// The answer as `run` shows it.
     pub fn answer(&self) -> Answer {
         self.answer.map_or_else(Answer::Refused, |()| Answer::Done)

@@ -367,7 +367,7 @@ fn a_line_may_name_what_a_turn_answers() {
         thread: Thread::MAIN,
         entry: Entry::ROOT,
         rights: Rights::READ_DIR,
-        answered: true,
+        state: SlotState::Answered,
         answer,
     };
     let met = |line: &str, answer| {
