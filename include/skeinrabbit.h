@@ -109,10 +109,7 @@ struct skein_queue {
 	uint64_t cursor;
 };
 
-#define SKEIN_FRESH_QUEUE \
-	{ \
-		{ 0 }, { 0 }, { 0 }, SKEIN_MAX_SLOTS - 1 \
-	}
+#define SKEIN_FRESH_QUEUE { { 0 }, { 0 }, { 0 }, SKEIN_MAX_SLOTS - 1 }
 
 /* States of a slot. */
 #define SKEIN_SLOT_EMPTY 0
