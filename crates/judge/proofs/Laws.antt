@@ -84,14 +84,18 @@ module _ (es : List ℕ) (L : Layer) where
   unfolding granted
   granted-way e i h = grants-way es (L .rules) i maxEntries e h
 
+  -- "the rights of its rule on that entry's object, joined with what it grants the parent", where the climb ends
+  pub granted-on : (e : ℕ) → reaches es maxEntries e ≡ true → (e ≡ 0 → ⊥) → granted es L e ≡ join (ownRights es (L .rules) e) (granted es L (parent es e))
+  unfolding granted
+  granted-on e r d =
+      let ends : reaches es (pred maxEntries) (parent es e) ≡ true = sym (reaches-up es maxEntries e d (λ z. omega arith)) ∙ r in
+      grants-up es (L .rules) maxEntries e d (λ z. omega arith)
+      ∙ ap (join (ownRights es (L .rules) e)) (sym (grants-enough es (L .rules) (pred maxEntries) maxEntries (parent es e) (omega arith) ends))
+
   module _ (next : ℕ) (Z : Tree es next) (e : ℕ) (l : live es e ≡ true) where
-    -- "the rights of its rule on that entry's object, joined with what it grants the parent"
+    -- and so for any live entry
     pub granted-up : (e ≡ 0 → ⊥) → granted es L e ≡ join (ownRights es (L .rules) e) (granted es L (parent es e))
-    unfolding granted
-    granted-up d =
-        let ends : reaches es (pred maxEntries) (parent es e) ≡ true = sym (reaches-up es maxEntries e d (λ z. omega arith)) ∙ Z .tops e l in
-        grants-up es (L .rules) maxEntries e d (λ z. omega arith)
-        ∙ ap (join (ownRights es (L .rules) e)) (sym (grants-enough es (L .rules) (pred maxEntries) maxEntries (parent es e) (omega arith) ends))
+    granted-up d = granted-on e (Z .tops e l) d
 
     -- and the way back
     pub way-granted : (k i : ℕ) → has (ownRights es (L .rules) (up es k e)) i ≡ true → has (granted es L e) i ≡ true
