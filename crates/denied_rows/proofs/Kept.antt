@@ -13,7 +13,7 @@ use lib.Seq.{getD-set-same, getD-set-other}
 use borrow.Author.Tests.{eqb-true, eqb-false, eq-eqb, ne-eqb}
 use Rattle.laws.specs.Cells.{cell}
 use Rattle.laws.proofs.Bools.{split, clash}
-use Rattle.laws.proofs.Cells.{cell-put, cell-put-beside, cell-put-other, getD-zeros}
+use Rattle.laws.proofs.Cells.{cell-put, cell-put-beside, cell-put-other, part-at, part-length, getD-zeros}
 use Rattle.access.specs.Limits.{maxEntries, maxLayers}
 use Rattle.access.specs.Rights.{meet, without, allFs}
 use Rattle.tables.specs.Tables.{parent, object, live, pathRule}
@@ -25,7 +25,7 @@ use Rattle.judge.specs.Rules.{rightsOn}
 use Rattle.judge.specs.Judge.{ownRights, granted, handledBy, handled, denied}
 use Rattle.judge.proofs.Climbs.{without-join}
 use Rattle.judge.proofs.Laws.{granted-root, granted-on}
-use Rattle.denied_rows.specs.Rows.{topBelow, topOf, RowsReady, Filled, RowsKept, RowAdded, above, RowTo}
+use Rattle.denied_rows.specs.Rows.{topBelow, topOf, RowsReady, Filled, RowsKept, RowAdded, above, RowTo, rowOf, RowRight}
 
 -- ---- the highest layer in use
 module _ (ls : List ℕ) where
@@ -186,3 +186,15 @@ module _ (es ls ps : List ℕ) where
   -- first the one above
   pub row-then : {marks rows₁ marks₁ rows₂ marks₂ : List ℕ} {p e : ℕ} → RowAdded es ls ps marks rows₁ marks₁ p → RowAdded es ls ps marks₁ rows₂ marks₂ e → RowAdded es ls ps marks rows₂ marks₂ e
   row-then A B = record { kept = B .kept; filled = B .filled; still = λ f h. B .still f (A .still f h) }
+
+  -- a filled row by itself
+  pub row-right : (rows marks : List ℕ) → RowsKept es ls ps rows marks → (e : ℕ) → e < maxEntries → Filled marks e → {row : List ℕ} → row ≡ rowOf rows e → RowRight es ls ps row e
+  unfolding rowOf
+  row-right rows marks K e b f q =
+      let w = K .cells in
+      let from = maxLayers * e in
+      rw q
+      (record {
+        long = part-length rows from (from + maxLayers) (omega arith) ∙ (omega arith);
+        right = λ l h. part-at rows from (from + maxLayers) l (let t = top-few ls in omega arith) ∙ K .right e l f h;
+      })

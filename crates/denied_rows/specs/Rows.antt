@@ -2,10 +2,10 @@
 use mathlib.Core.Path.{_≡_}
 use mathlib.Core.Bool.{true, cond}
 use mathlib.Core.List.{List}
-use Prim.Native.Nat.{ℕ, zero, suc, _*_, _≤_, _<_}
+use Prim.Native.Nat.{ℕ, zero, suc, _+_, _*_, _≤_, _<_}
 use lib.Dec.{eqb}
 use lib.ListN.{length, getD}
-use Rattle.laws.specs.Cells.{cell}
+use Rattle.laws.specs.Cells.{cell, part}
 use Rattle.access.specs.Limits.{maxEntries, maxLayers}
 use Rattle.access.specs.Rights.{without, allFs}
 use Rattle.tables.specs.Tables.{entryWidth, parent, live}
@@ -59,3 +59,12 @@ pub record RowTo (es ls ps rows rows′ : List ℕ) (e n : ℕ) : Type 0 where
   pub new : (l : ℕ) → l < n → cell rows′ maxLayers e l ≡ without (above es ls rows e l) (ownRights es (layerAt ls ps l .rules) e)
   pub rest : (l : ℕ) → n ≤ l → cell rows′ maxLayers e l ≡ cell rows maxLayers e l
   pub others : (f l : ℕ) → (f ≡ e → ⊥) → l < maxLayers → cell rows′ maxLayers f l ≡ cell rows maxLayers f l
+
+-- the cells of the row of e
+unfoldable pub rowOf : List ℕ → ℕ → List ℕ
+rowOf rows e = part rows (maxLayers * e) (maxLayers * e + maxLayers)
+
+-- a row by itself: cell l is what layer l denies the entry
+pub record RowRight (es ls ps row : List ℕ) (e : ℕ) : Type 0 where
+  pub long : length row ≡ maxLayers
+  pub right : (l : ℕ) → l < topOf ls → getD row l 0 ≡ denied es (layerAt ls ps l) e

@@ -22,7 +22,7 @@ ghost use Rattle.tables.specs.Tables.{entryWidth, parent, live};
 ghost use Rattle.tables.specs.Layers.{layerFs};
 ghost use Rattle.judge.specs.Judge.{handledBy};
 ghost use Rattle.sound_tree.specs.Tree.{reaches};
-ghost use Rattle.denied_rows.specs.Rows.{topOf, RowsReady, Filled, RowsKept, RowAdded, above, RowTo};
+ghost use Rattle.denied_rows.specs.Rows.{topOf, RowsReady, Filled, RowsKept, RowAdded, above, RowTo, rowOf};
 
 // The cells of all rows.
 pub const ROWS_CELLS: usize = MAX_LAYERS * MAX_ENTRIES;
@@ -86,7 +86,7 @@ fn fill_marked(
 }
 
 // Fills the row of an entry, after those above it; `left` steps up are left.
-pub fn fill_row(
+fn fill_row(
     entries: &[u64],
     layers: &[u64],
     pool: &[u64],
@@ -109,4 +109,33 @@ pub fn fill_row(
     let parent = entries[ENTRY_WIDTH * e + ENTRY_PARENT] as usize;
     fill_row(entries, layers, pool, rows, marks, top, parent, left - 1);
     fill_marked(entries, layers, pool, rows, marks, top, e);
+}
+
+// Fills the row of an entry where it is not filled yet.
+pub fn need_row(
+    entries: &[u64],
+    layers: &[u64],
+    pool: &[u64],
+    rows: &mut [u16],
+    marks: &mut [u8],
+    top: usize,
+    e: usize,
+)
+    requires { ⌜ RowsReady (now entries) (now layers) (now pool) × ((live (now entries) e ≡ true) × ((top ≡ topOf (now layers)) × RowsKept (now entries) (now layers) (now pool) (now rows) (now marks))) ⌝ }
+    ensures { λ r. ⌜ RowAdded (now (entries .entry)) (now (layers .entry)) (now (pool .entry)) (now (marks .entry)) (now (rows .exit)) (now (marks .exit)) e ⌝ }
+{
+    if marks[e] != 0 {
+        return;
+    }
+    fill_row(entries, layers, pool, rows, marks, top, e, MAX_ENTRIES);
+}
+
+// The row of an entry.
+pub fn row_of<'a>(rows: &'a [u16], e: usize) -> &'a [u16]
+    requires { ⌜ (length (now rows) ≡ maxLayers * maxEntries) × (e < maxEntries) ⌝ }
+    ensures { λ r. ⌜ now r ≡ rowOf (now (rows .entry)) e ⌝ }
+{
+    let from = MAX_LAYERS * e;
+    let to = from + MAX_LAYERS;
+    &rows[from..to]
 }

@@ -12,7 +12,7 @@ use Rattle.tables.specs.Tables.{pathRule}
 use Rattle.tables.specs.Layers.{Layer}
 use Rattle.judge.specs.Rules.{rightsOn}
 use Rattle.judge.specs.Judge.{denied, missing}
-use Rattle.judge.proofs.Laws.{has-missing, has-denied}
+use Rattle.judge.proofs.Laws.{has-missing, missing-denied}
 use Rattle.fs.specs.declared.verdict.Move.{Move}
 use Rattle.fs.specs.Move.{deniedNeeds, deniedRefer, uncontained, escaping}
 use Rattle.fs.specs.Against.{compared, atSource, atTarget, needsAgainst, referAgainst, escapingAgainst, crossedAgainst}
@@ -23,13 +23,10 @@ pub record Agrees (es : List ℕ) (L : Layer) (e n d : ℕ) : Type 0 where
   pub on : (i : ℕ) → has n i ≡ true → has d i ≡ has (denied es L e) i
 
 module _ (es : List ℕ) (L : Layer) (e : ℕ) where
-  missing-denied : (m i : ℕ) → has (missing es L e m) i ≡ (has m i && has (denied es L e) i)
-  missing-denied m i = has-missing es L e m i ∙ ap (λ (b : Bool). has m i && b) (sym (has-denied es L e i))
-
   -- what code found missing of the rights a and w
   pub missing-agrees : (a v : ℕ) {w n d : ℕ} → w ≡ v → n ≡ join a w → d ≡ missing es L e n → Agrees es L e (join a v) d
   missing-agrees a v p q r = record {
-    on = λ i h. ap (λ (x : ℕ). has x i) (r ∙ ap (missing es L e) (q ∙ ap (join a) p)) ∙ missing-denied (join a v) i ∙ rw h refl;
+    on = λ i h. ap (λ (x : ℕ). has x i) (r ∙ ap (missing es L e) (q ∙ ap (join a) p)) ∙ missing-denied es L e (join a v) i ∙ rw h refl;
   }
 
   -- all that is denied
@@ -42,7 +39,7 @@ module _ (es : List ℕ) (L : Layer) (e : ℕ) where
     part-denied = ext-has (meet d p) (missing es L e p) (λ i.
         has-meet d p i
         ∙ inside (has p i) (has d i) (has (denied es L e) i) (λ k. a .on i (h i k))
-        ∙ sym (missing-denied p i))
+        ∙ sym (missing-denied es L e p i))
       where
         inside : (b x y : Bool) → (b ≡ true → x ≡ y) → (x && b) ≡ (b && y)
         inside true x y f = and-true x ∙ f refl

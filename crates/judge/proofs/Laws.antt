@@ -12,7 +12,7 @@ use Rattle.laws.proofs.Bools.{and-l, and-r, both, or-cases, or-left, or-right, 
 use Rattle.laws.proofs.Tests.{any-find, any-none}
 use Rattle.access.specs.Limits.{maxEntries}
 use Rattle.access.specs.Rights.{has, join, meet, without, REFER}
-use Rattle.access.proofs.Laws.{has-join, has-meet, has-without, has-only, has-none, some-bit}
+use Rattle.access.proofs.Laws.{has-join, has-meet, has-without, has-only, has-none, some-bit, ext-has}
 use Rattle.tables.specs.Tables.{parent, live, portRule}
 use Rattle.tables.specs.Layers.{Layer, layerAt}
 use Rattle.sound_tree.specs.Tree.{reaches}
@@ -124,6 +124,13 @@ module _ (es : List ℕ) (L : Layer) (e : ℕ) where
   pub has-missing : (m i : ℕ) → has (missing es L e m) i ≡ (has m i && (has (handled L) i && not (has (granted es L e) i)))
   unfolding missing
   has-missing m i = has-left m (handled L) (granted es L e) i
+
+  -- of the rights m, those that the layer denies
+  pub missing-denied : (m i : ℕ) → has (missing es L e m) i ≡ (has m i && has (denied es L e) i)
+  missing-denied m i = has-missing m i ∙ ap (λ (b : Bool). has m i && b) (sym (has-denied i))
+
+  pub meet-denied : (m : ℕ) → meet m (denied es L e) ≡ missing es L e m
+  meet-denied m = ext-has (meet m (denied es L e)) (missing es L e m) (λ i. has-meet m (denied es L e) i ∙ sym (missing-denied m i))
 
 pub has-port-missing : (L : Layer) (port m i : ℕ) → has (portMissing L port m) i ≡ (has m i && (has (L .net) i && not (has (rightsOn (L .rules) portRule port) i)))
 unfolding portMissing
