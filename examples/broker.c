@@ -1,10 +1,10 @@
 /*
- * A small file broker, whole. It owns a directory and serves two plug-ins, each under its own policy. docs/BROKER.md explains it.
+ * A small file broker, whole. It owns a directory and serves two clients, each under its own policy. docs/BROKER.md explains it.
  *
  *     broker DIRECTORY    the directory is made, and removed again
  *
  * It prints each request with its answer, and who refused: the broker itself, the core (that is, the library; with the layer and
- * the rights that it denies, if it was a layer) or the system. In earnest a plug-in is a program of its own, run by a user who
+ * the rights that it denies, if it was a layer) or the system. In earnest a client is a program of its own, run by a user who
  * cannot open the broker's files; here it is a list of requests that a forked process makes.
  */
 #define _POSIX_C_SOURCE 200809L
@@ -22,10 +22,10 @@
 #include <sys/wait.h>
 #include <unistd.h>
 
-#include "broker_plugins.h"
+#include "broker_clients.h"
 #include "skeinrabbit.h"
 
-enum { PLUGINS = 2, GRANTS = 2 };
+enum { CLIENTS = 2, GRANTS = 2 };
 static const char *const operation_names[] = { "read", "write", "create", "mkdir", "remove", "rename", "?" };
 
 #define ALL_FILE_RIGHTS ((SKEIN_FS_IOCTL_DEV << 1) - 1)
@@ -41,7 +41,7 @@ struct answer {
 	struct skein_report report;
 };
 
-struct plugin {
+struct client {
 	const char *name;
 	const char *paths[GRANTS]; /* its policy: at each path and below, these rights */
 	uint64_t rights[GRANTS];
@@ -57,7 +57,7 @@ struct place {
 	char name[PATH_SIZE];
 };
 
-static struct plugin plugins[PLUGINS] = {
+static struct client clients[CLIENTS] = {
 	{ "importer", { "/cal", "/import" }, { MAY_READ, MAY_WORK }, importer_requests, -1, 0, 0 },
 	{ "archiver", { "/import", "/archive" }, { MAY_WORK, MAY_MOVE }, archiver_requests, -1, 0, 0 },
 };
@@ -169,7 +169,7 @@ static int open_directory(uint64_t directory)
 	return opened;
 }
 
-/* At start: the tables are built from the directory, and each plug-in gets its thread. */
+/* At start: the tables are built from the directory, and each client gets its thread. */
 
 static void take_file(int from, uint64_t directory, const char *name);
 
@@ -207,28 +207,28 @@ static void take_file(int from, uint64_t directory, const char *name)
 		scan(entry);
 }
 
-/* Every right and scope is handled, so the plug-in's thread may do what its policy grants and reach no other thread. */
-static void confine(struct plugin *plugin)
+/* Every right and scope is handled, so the client's thread may do what its policy grants and reach no other thread. */
+static void confine(struct client *client)
 {
 	const struct skein_ruleset_attr attr = { ALL_FILE_RIGHTS, SKEIN_NET_BIND_TCP | SKEIN_NET_CONNECT_TCP,
 						 SKEIN_SCOPE_ABSTRACT_UNIX_SOCKET | SKEIN_SCOPE_SIGNAL };
 	const uint64_t ruleset = must("ruleset", skeinrabbit_create_ruleset(&tables, &attr, sizeof(attr), 0));
 
 	for (size_t i = 0; i < GRANTS; i++) {
-		const char *const path = plugin->paths[i];
+		const char *const path = client->paths[i];
 		const uint64_t entry = must(path, skeinrabbit_lookup(&tables, path, strlen(path)));
 
-		must(path, skeinrabbit_add_path_rule(&tables, ruleset, entry, plugin->rights[i], 0));
+		must(path, skeinrabbit_add_path_rule(&tables, ruleset, entry, client->rights[i], 0));
 	}
-	plugin->thread = must("clone", skeinrabbit_clone(&tables, SKEIN_FIRST_THREAD));
-	must("no_new_privs", skeinrabbit_set_no_new_privs(&tables, plugin->thread));
-	must("restrict", skeinrabbit_restrict(&tables, plugin->thread, ruleset, 0));
+	client->thread = must("clone", skeinrabbit_clone(&tables, SKEIN_FIRST_THREAD));
+	must("no_new_privs", skeinrabbit_set_no_new_privs(&tables, client->thread));
+	must("restrict", skeinrabbit_restrict(&tables, client->thread, ruleset, 0));
 	must("close", skeinrabbit_close_ruleset(&tables, ruleset));
 }
 
 /* Requests. */
 
-/* Reads or writes for the plug-in, which never has the descriptor itself. */
+/* Reads or writes for the client, which never has the descriptor itself. */
 static struct answer use_file(uint64_t thread, const struct request *request, const struct place *place)
 {
 	const int writes = request->operation == WRITE;
@@ -374,8 +374,8 @@ static void log_layer(const struct skein_report *report)
 	}
 }
 
-/* What a plug-in sent may be any bytes: only printable ones go into the log. */
-static void log_request(const struct plugin *plugin, const struct request *request, const struct answer *answer)
+/* What a client sent may be any bytes: only printable ones go into the log. */
+static void log_request(const struct client *client, const struct request *request, const struct answer *answer)
 {
 	const uint32_t operation = request->operation < OPERATIONS ? request->operation : OPERATIONS;
 	const char *const target = operation == RENAME ? request->target : "";
@@ -384,7 +384,7 @@ static void log_request(const struct plugin *plugin, const struct request *reque
 	snprintf(paths, sizeof(paths), "%.*s%s%.*s", PATH_SIZE, request->path, *target == '\0' ? "" : " -> ", PATH_SIZE, target);
 	for (char *c = paths; *c != '\0'; c++)
 		*c = isprint((unsigned char)*c) ? *c : '?';
-	printf("%s  %-6s  %-31s  %s", plugin->name, operation_names[operation], paths, error_name(answer->reply.error));
+	printf("%s  %-6s  %-31s  %s", client->name, operation_names[operation], paths, error_name(answer->reply.error));
 	if (answer->reply.error != 0) {
 		printf(" (%s", answer->by);
 		log_layer(&answer->report);
@@ -393,70 +393,70 @@ static void log_request(const struct plugin *plugin, const struct request *reque
 	putchar('\n');
 }
 
-/* Lets a plug-in go. Its thread ends, so that its number and layers are there for another. */
-static void let_go(struct plugin *plugin)
+/* Lets a client go. Its thread ends, so that its number and layers are there for another. */
+static void let_go(struct client *client)
 {
-	close(plugin->connection);
-	plugin->connection = -1;
-	must("end", skeinrabbit_end(&tables, plugin->thread));
+	close(client->connection);
+	client->connection = -1;
+	must("end", skeinrabbit_end(&tables, client->thread));
 }
 
-/* Answers one request, or lets the plug-in go if it has left or does not read. The broker never waits for one of them. */
-static void serve(struct plugin *plugin)
+/* Answers one request, or lets the client go if it has left or does not read. The broker never waits for one of them. */
+static void serve(struct client *client)
 {
 	char packet[sizeof(struct request) + 1];
-	const ssize_t length = recv(plugin->connection, packet, sizeof(packet), MSG_DONTWAIT);
+	const ssize_t length = recv(client->connection, packet, sizeof(packet), MSG_DONTWAIT);
 	struct request request = { OPERATIONS, "", "", "" };
 	struct answer answer = answered(0, "");
 
 	if (length == (ssize_t)sizeof(request))
 		memcpy(&request, packet, sizeof(request));
 	if (length > 0) {
-		answer = judge(plugin->thread, &request);
-		log_request(plugin, &request, &answer);
+		answer = judge(client->thread, &request);
+		log_request(client, &request, &answer);
 	}
-	if (length <= 0 || send(plugin->connection, &answer.reply, sizeof(answer.reply), MSG_DONTWAIT | MSG_NOSIGNAL) < 0)
-		let_go(plugin);
+	if (length <= 0 || send(client->connection, &answer.reply, sizeof(answer.reply), MSG_DONTWAIT | MSG_NOSIGNAL) < 0)
+		let_go(client);
 }
 
 static void serve_all(void)
 {
-	struct pollfd waiting[PLUGINS];
+	struct pollfd waiting[CLIENTS];
 
 	for (;;) {
 		int connected = 0;
 
-		for (size_t i = 0; i < PLUGINS; i++) {
-			waiting[i].fd = plugins[i].connection;
+		for (size_t i = 0; i < CLIENTS; i++) {
+			waiting[i].fd = clients[i].connection;
 			waiting[i].events = POLLIN;
-			connected += plugins[i].connection >= 0;
+			connected += clients[i].connection >= 0;
 		}
 		if (connected == 0)
 			return;
-		if (poll(waiting, PLUGINS, 1000 * SECONDS / 2) <= 0)
+		if (poll(waiting, CLIENTS, 1000 * SECONDS / 2) <= 0)
 			die("no request", ETIMEDOUT);
-		for (size_t i = 0; i < PLUGINS; i++)
+		for (size_t i = 0; i < CLIENTS; i++)
 			if (waiting[i].revents != 0)
-				serve(&plugins[i]);
+				serve(&clients[i]);
 	}
 }
 
-/* Of the broker's descriptors a plug-in keeps none. */
-static void start(struct plugin *plugin, int pipe_end)
+/* Of the broker's descriptors a client keeps none. */
+static void start(struct client *client, int pipe_end)
 {
 	int ends[2];
 
-	if (socketpair(AF_UNIX, SOCK_SEQPACKET, 0, ends) != 0 || (plugin->process = fork()) < 0)
-		die(plugin->name, errno);
-	if (plugin->process == 0) {
+	if (socketpair(AF_UNIX, SOCK_SEQPACKET, 0, ends) != 0 || (client->process = fork()) < 0)
+		die(client->name, errno);
+	if (client->process == 0) {
 		close(root);
 		close(ends[0]);
-		for (size_t i = 0; i < PLUGINS; i++)
-			close(plugins[i].connection);
-		run_plugin(plugin->requests, ends[1], pipe_end);
+		for (size_t i = 0; i < CLIENTS; i++)
+			close(clients[i].connection);
+		run_client(client->requests, ends[1], pipe_end);
 	}
 	close(ends[1]);
-	plugin->connection = ends[0];
+	client->connection = ends[0];
 }
 
 /* The directory. */
@@ -494,16 +494,16 @@ static void make_directory(const char *path)
 	put("import/lost", "");
 }
 
-/* The second plug-in begins when the first has ended, so that the output is the same each time. */
-static void start_plugins(void)
+/* The second client begins when the first has ended, so that the output is the same each time. */
+static void start_clients(void)
 {
 	int ends[2];
 
 	if (pipe(ends) != 0)
 		die("pipe", errno);
-	start(&plugins[0], -1);
-	close(ends[1]); /* only the first plug-in has it now */
-	start(&plugins[1], ends[0]);
+	start(&clients[0], -1);
+	close(ends[1]); /* only the first client has it now */
+	start(&clients[1], ends[0]);
 	close(ends[0]);
 }
 
@@ -513,11 +513,11 @@ static int report(void)
 	const struct answer table = judge(SKEIN_FIRST_THREAD, &importer_requests[0]);
 	int wrong = strcmp(table.reply.text, TABLE_TEXT) != 0;
 
-	for (size_t i = 0; i < PLUGINS; i++) {
+	for (size_t i = 0; i < CLIENTS; i++) {
 		int status;
-		const int well = waitpid(plugins[i].process, &status, 0) > 0 && status == 0;
+		const int well = waitpid(clients[i].process, &status, 0) > 0 && status == 0;
 
-		printf("%s %s what it should\n", plugins[i].name, well ? "got" : "did not get");
+		printf("%s %s what it should\n", clients[i].name, well ? "got" : "did not get");
 		wrong |= !well;
 	}
 	printf("%u layers are in use when both have left\n", (unsigned)tables.system[2]);
@@ -536,9 +536,9 @@ int main(int argc, char **argv)
 	must("fresh tables", skeinrabbit_fresh(&tables, SKEIN_MAX_LEVEL));
 	scan(SKEIN_ROOT);
 	unlinkat(root, "import/lost", 0); /* behind the broker's back */
-	for (size_t i = 0; i < PLUGINS; i++)
-		confine(&plugins[i]);
-	start_plugins();
+	for (size_t i = 0; i < CLIENTS; i++)
+		confine(&clients[i]);
+	start_clients();
 	serve_all();
 	return report();
 }

@@ -28,10 +28,10 @@
  * - The number of a removed entry, a closed ruleset or a thread that has ended is given out again, lowest first, and after
  *   skeinrabbit_fresh every number is: a number that is kept too long names something else. Numbers are no secrets: whoever may
  *   name any thread may do what any thread may.
- * - The tables are shared and small: 1,024 entries, 16 rulesets, 256 layers, 1,024 rules of layers, 8 threads. A plug-in that may
+ * - The tables are shared and small: 1,024 entries, 16 rulesets, 256 layers, 1,024 rules of layers, 8 threads. A client that may
  *   create, or reach skeinrabbit_clone, can fill them for all. Layers and their rules come back when the threads that have them
  *   end.
- * - That a sandbox cannot widen itself is said of one domain and those grown from it (docs/THEOREMS.md). Two plug-ins, each with
+ * - That a sandbox cannot widen itself is said of one domain and those grown from it (docs/THEOREMS.md). Two clients, each with
  *   a safe policy of its own, may do together what neither may do alone: examples/together.skein.
  */
 #ifndef SKEINRABBIT_H

@@ -19,7 +19,7 @@ struct connection {
 
 extern struct skein_tables tables, before;
 extern struct connection *connection, *connections;
-extern size_t plugin_count;
+extern size_t client_count;
 extern const uint64_t *policies;
 extern uint64_t common, directory, entry, kind, source;
 extern int source_fd, directory_fd;

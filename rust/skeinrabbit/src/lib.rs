@@ -55,8 +55,8 @@
 //! let import = tables.create(Thread::MAIN, Entry::ROOT, Kind::DIRECTORY, "import")?;
 //! let table = tables.create(Thread::MAIN, cal, Kind::REGULAR, "table")?;
 //!
-//! let plugin = tables.clone_thread(Thread::MAIN)?;
-//! tables.set_no_new_privs(plugin)?;
+//! let client = tables.clone_thread(Thread::MAIN)?;
+//! tables.set_no_new_privs(client)?;
 //! let all = AccessFs::READ_FILE | AccessFs::WRITE_FILE | AccessFs::REMOVE_FILE | AccessFs::MAKE_REG | AccessFs::REFER;
 //! let layer = tables
 //!     .ruleset()
@@ -64,13 +64,13 @@
 //!     .create()?
 //!     .add_path(cal, AccessFs::READ_FILE)?
 //!     .add_path(import, all)?
-//!     .restrict(plugin)?;
+//!     .restrict(client)?;
 //!
 //! let denied = |rights| Err(Refusal::Denied { layer, rights });
-//! assert_eq!(tables.access(plugin, table, AccessFs::WRITE_FILE), denied(AccessFs::WRITE_FILE));
-//! assert_eq!(tables.rename(plugin, table, import, "table"), denied(AccessFs::REMOVE_FILE));
+//! assert_eq!(tables.access(client, table, AccessFs::WRITE_FILE), denied(AccessFs::WRITE_FILE));
+//! assert_eq!(tables.rename(client, table, import, "table"), denied(AccessFs::REMOVE_FILE));
 //!
-//! // Another plug-in may even take files out of the tree. The table still does not go where it could be written.
+//! // Another client may even take files out of the tree. The table still does not go where it could be written.
 //! let mover = tables.clone_thread(Thread::MAIN)?;
 //! tables.set_no_new_privs(mover)?;
 //! let layer = tables

@@ -1,8 +1,8 @@
 /*
- * The plug-ins' side of examples/broker.c: what a plug-in sends and gets, and what the two plug-ins of the example ask for.
+ * The clients' side of examples/broker.c: what a client sends and gets, and what the two clients of the example ask for.
  */
-#ifndef BROKER_PLUGINS_H
-#define BROKER_PLUGINS_H
+#ifndef BROKER_CLIENTS_H
+#define BROKER_CLIENTS_H
 
 #include <stdint.h>
 #include <string.h>
@@ -15,7 +15,7 @@ enum { READ, WRITE, CREATE, MKDIR, REMOVE, RENAME, OPERATIONS };
 #define TABLE_TEXT "boils at 205 degrees\n"
 #define FEED_TEXT "feed of Friday\n"
 
-/* What a plug-in sends. No thread is in it: that is the connection's. */
+/* What a client sends. No thread is in it: that is the connection's. */
 struct request {
 	uint32_t operation;
 	char path[PATH_SIZE];
@@ -70,8 +70,8 @@ static const struct request archiver_requests[] = {
 	{ OPERATIONS, "", "", "" },
 };
 
-/* A plug-in's process. If there is a pipe it waits for its other end to close. It ends with 0 if it read what it should. */
-static void run_plugin(const struct request *request, int connection, int pipe_end)
+/* A client's process. If there is a pipe it waits for its other end to close. It ends with 0 if it read what it should. */
+static void run_client(const struct request *request, int connection, int pipe_end)
 {
 	struct reply reply;
 	int wrong = 0;
