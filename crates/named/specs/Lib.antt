@@ -8,3 +8,4 @@ pub mod Calls
 pub mod Claim
 pub mod Layer
 pub mod Promise
+pub mod Answers

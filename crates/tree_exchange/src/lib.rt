@@ -27,7 +27,7 @@ ghost use Rattle.tree_moves.specs.Rows.{readsPossible};
 ghost use Rattle.tree.specs.Entries.{withEntries};
 ghost use Rattle.tree.specs.Exchange.{exchangeNames, exchangeShape, exchangeChecks, swapped};
 
-fn exchange_names(
+pub fn exchange_names(
     system: &[u64],
     entries: &[u64],
     rulesets: &[u64],
@@ -56,7 +56,7 @@ fn exchange_names(
     0
 }
 
-fn exchange_shape(entries: &[u64], s: u64, d: u64, x: u64) -> u64
+pub fn exchange_shape(entries: &[u64], s: u64, d: u64, x: u64) -> u64
     ensures { λ r. ⌜ r ≡ first (exchangeShape (now (entries .entry)) s d x) ⌝ }
 {
     if s == 0 {
