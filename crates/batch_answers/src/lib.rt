@@ -49,10 +49,10 @@ fn request_reply(
     marks: &mut [u8],
     top: usize,
     request: Request,
-    request_names: &[u8],
+    asked: &[u8],
 ) -> Reply
     requires { ⌜ (namedSound (withNames (tables (now system) (now entries) (now rulesets) (now layers) (now pool) (now threads)) (now names)) ≡ true) × (NeedsTable (now needs) × (IndexedIf whole (now entries) (now names) (now heads) (now links) × BatchReady (now entries) (now layers) (now pool) (now threads) top (now rows) (now marks))) ⌝ }
-    ensures reply { λ r. ⌜ r ≡ replyAsked (before system entries rulesets layers pool threads names) (request .sort) (request .thread) (request .a) (request .b) (request .c) (partName (now (request_names .entry)) (request .from) (request .bytes)) ⌝ }
+    ensures reply { λ r. ⌜ r ≡ replyAsked (before system entries rulesets layers pool threads names) (request .sort) (request .thread) (request .a) (request .b) (request .c) (partName (now (asked .entry)) (request .from) (request .bytes)) ⌝ }
     ensures ready { λ r. ⌜ BatchReady (now (entries .entry)) (now (layers .entry)) (now (pool .entry)) (now (threads .entry)) top (now (rows .exit)) (now (marks .exit)) ⌝ }
 {
     let sort = request.sort;
@@ -89,7 +89,7 @@ fn request_reply(
         );
     }
     if sort == LINK {
-        let name = request_name(request_names, request.from, request.bytes);
+        let name = request_name(asked, request.from, request.bytes);
         return link_reply(
             system,
             entries,
@@ -112,7 +112,7 @@ fn request_reply(
         );
     }
     if sort == RENAME {
-        let name = request_name(request_names, request.from, request.bytes);
+        let name = request_name(asked, request.from, request.bytes);
         return rename_reply(
             system,
             entries,
@@ -165,11 +165,11 @@ pub fn answer_all(
     links: &[u16],
     whole: bool,
     requests: &[u64],
-    request_names: &[u8],
+    asked: &[u8],
     answers: &mut [u64],
 )
     requires { ⌜ (namedSound (withNames (tables (now system) (now entries) (now rulesets) (now layers) (now pool) (now threads)) (now names)) ≡ true) × (IndexedIf whole (now entries) (now names) (now heads) (now links) × (first (batchChecks (now requests) (now answers)) ≡ 0)) ⌝ }
-    ensures { λ r. ⌜ now (answers .exit) ≡ answersTo (before system entries rulesets layers pool threads names) (now (requests .entry)) (now (request_names .entry)) (now (answers .entry)) (requestCount (now (requests .entry))) ⌝ }
+    ensures { λ r. ⌜ now (answers .exit) ≡ answersTo (before system entries rulesets layers pool threads names) (now (requests .entry)) (now (asked .entry)) (now (answers .entry)) (requestCount (now (requests .entry))) ⌝ }
 {
     let needs = needs_table();
     let mut rows = [0u16; ROWS_CELLS];
@@ -194,7 +194,7 @@ pub fn answer_all(
             &mut marks,
             top,
             request_at(requests, i),
-            request_names,
+            asked,
         );
         put_answer(answers, i, reply);
         i += 1;
@@ -211,11 +211,11 @@ pub fn answer_unsound(
     threads: &[u64],
     names: &[u8],
     requests: &[u64],
-    request_names: &[u8],
+    asked: &[u8],
     answers: &mut [u64],
 )
     requires { ⌜ (namedSound (withNames (tables (now system) (now entries) (now rulesets) (now layers) (now pool) (now threads)) (now names)) ≡ false) × (first (batchChecks (now requests) (now answers)) ≡ 0) ⌝ }
-    ensures { λ r. ⌜ now (answers .exit) ≡ answersTo (before system entries rulesets layers pool threads names) (now (requests .entry)) (now (request_names .entry)) (now (answers .entry)) (requestCount (now (requests .entry))) ⌝ }
+    ensures { λ r. ⌜ now (answers .exit) ≡ answersTo (before system entries rulesets layers pool threads names) (now (requests .entry)) (now (asked .entry)) (now (answers .entry)) (requestCount (now (requests .entry))) ⌝ }
 {
     let n = requests.len() / REQUEST_WIDTH;
     let mut i = 0;

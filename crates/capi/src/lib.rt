@@ -726,7 +726,7 @@ pub extern "C" fn skein_turn(
     number(served_reply(said))
 }
 
-// A request is 7 cells, an answer 3; `request_names` has the names of link and rename requests.
+// A request is 7 cells, an answer 3; `asked` has the names of link and rename requests.
 #[no_mangle]
 pub extern "C" fn skein_batch(
     system: &[u64],
@@ -737,11 +737,11 @@ pub extern "C" fn skein_batch(
     threads: &[u64],
     names: &[u8],
     requests: &[u64],
-    request_names: &[u8],
+    asked: &[u8],
     answers: &mut [u64],
 ) -> u64
-    ensures answer { λ r. ⌜ Answers r (after system entries rulesets layers pool threads names) (batchNamed (before system entries rulesets layers pool threads names) (now (requests .entry)) (now (request_names .entry)) (now (answers .entry))) ⌝ }
-    ensures answers { λ r. ⌜ now (answers .exit) ≡ batchOf (before system entries rulesets layers pool threads names) (now (requests .entry)) (now (request_names .entry)) (now (answers .entry)) .answers ⌝ }
+    ensures answer { λ r. ⌜ Answers r (after system entries rulesets layers pool threads names) (batchNamed (before system entries rulesets layers pool threads names) (now (requests .entry)) (now (asked .entry)) (now (answers .entry))) ⌝ }
+    ensures answers { λ r. ⌜ now (answers .exit) ≡ batchOf (before system entries rulesets layers pool threads names) (now (requests .entry)) (now (asked .entry)) (now (answers .entry)) .answers ⌝ }
 {
     number(syscalls_batch::batch(
         system,
@@ -752,7 +752,7 @@ pub extern "C" fn skein_batch(
         threads,
         names,
         requests,
-        request_names,
+        asked,
         answers,
     ))
 }

@@ -26,11 +26,11 @@ fn answer(
     threads: &[u64],
     names: &[u8],
     requests: &[u64],
-    request_names: &[u8],
+    asked: &[u8],
     answers: &mut [u64],
 )
     requires { ⌜ first (batchChecks (now requests) (now answers)) ≡ 0 ⌝ }
-    ensures { λ r. ⌜ now (answers .exit) ≡ answersTo (before system entries rulesets layers pool threads names) (now (requests .entry)) (now (request_names .entry)) (now (answers .entry)) (requestCount (now (requests .entry))) ⌝ }
+    ensures { λ r. ⌜ now (answers .exit) ≡ answersTo (before system entries rulesets layers pool threads names) (now (requests .entry)) (now (asked .entry)) (now (answers .entry)) (requestCount (now (requests .entry))) ⌝ }
 {
     let mut heads = [0u16; BUCKETS];
     let mut links = [0u16; MAX_ENTRIES];
@@ -44,7 +44,7 @@ fn answer(
             threads,
             names,
             requests,
-            request_names,
+            asked,
             answers,
         );
         return;
@@ -60,7 +60,7 @@ fn answer(
             threads,
             names,
             requests,
-            request_names,
+            asked,
             answers,
         );
         return;
@@ -77,7 +77,7 @@ fn answer(
         &links,
         indexed.whole,
         requests,
-        request_names,
+        asked,
         answers,
     );
 }
@@ -94,11 +94,11 @@ pub fn batch(
     threads: &[u64],
     names: &[u8],
     requests: &[u64],
-    request_names: &[u8],
+    asked: &[u8],
     answers: &mut [u64],
 ) -> Reply
-    ensures reply { λ answer. ⌜ namedOutcome answer (after system entries rulesets layers pool threads names) ≡ batchNamed (before system entries rulesets layers pool threads names) (now (requests .entry)) (now (request_names .entry)) (now (answers .entry)) ⌝ }
-    ensures answers { λ answer. ⌜ now (answers .exit) ≡ batchOf (before system entries rulesets layers pool threads names) (now (requests .entry)) (now (request_names .entry)) (now (answers .entry)) .answers ⌝ }
+    ensures reply { λ answer. ⌜ namedOutcome answer (after system entries rulesets layers pool threads names) ≡ batchNamed (before system entries rulesets layers pool threads names) (now (requests .entry)) (now (asked .entry)) (now (answers .entry)) ⌝ }
+    ensures answers { λ answer. ⌜ now (answers .exit) ≡ batchOf (before system entries rulesets layers pool threads names) (now (requests .entry)) (now (asked .entry)) (now (answers .entry)) .answers ⌝ }
 {
     let e = batch_checks(requests, answers);
     if e != 0 {
@@ -113,7 +113,7 @@ pub fn batch(
         threads,
         names,
         requests,
-        request_names,
+        asked,
         answers,
     );
     Reply::Done(0)
