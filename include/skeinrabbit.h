@@ -23,7 +23,7 @@
  *   report, and the requests and verdicts of a batch without requests;
  * - none of these overlap: the tables, a queue, the bytes of an attribute, a name or a path, a report, the requests, names and
  *   verdicts of a batch, and the two places where skeinrabbit_layer_rules and skeinrabbit_component report;
- * - 96 KiB of stack are left, for skeinrabbit_batch 640 KiB (docs/PERFORMANCE.md), which a thread or coroutine with a small stack
+ * - 96 KiB of stack are left, for skeinrabbit_batch 1 MiB (docs/PERFORMANCE.md), which a thread or coroutine with a small stack
  *   may not have;
  * - no other call on the same tables or the same queue runs meanwhile, from a thread or from a signal handler. Calls on others may;
  * - the program is for x86-64 Linux, as the archive is.

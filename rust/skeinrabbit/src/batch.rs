@@ -501,7 +501,7 @@ impl Tables {
     /// no free entry for the link, ENOSPC; a directory over something else, ENOTDIR, the reverse, EISDIR, or a replaced directory
     /// that is not empty, ENOTEMPTY. Where the tables are not sound every verdict is EIO.
     ///
-    /// A batch needs more stack than other calls do, see `include/skeinrabbit.h`.
+    /// A batch needs more stack than other calls do: up to 749 KiB were measured. Have 1 MiB left; a thread that `std` starts has 2.
     ///
     /// ```
     /// # use skeinrabbit::*;
