@@ -111,17 +111,19 @@ fn parts_of_a_queue_are_writable_exactly_where_the_proved_export_writes() {
 
 #[test]
 fn only_the_answers_of_a_batch_are_writable() {
+    let export = PROVED.split("extern \"C\" fn skein_");
+    let export = export.skip(1).find(|export| export.starts_with("batch("));
+    let (parameters, _) = export.unwrap().split_once(") -> u64").unwrap();
+    let kinds = parameters.lines().filter_map(|line| line.split_once(": "));
+    let lists: Vec<&str> = kinds.skip(7).map(|(_, kind)| kind).collect();
+    assert_eq!(lists, ["&[u64],", "&[u8],", "&mut [u64],"]);
     let (_, batch) = DECLARED.split_once("skein_batch[").unwrap();
     let (batch, _) = batch.split_once("\n}").unwrap();
-    for (proved, declared) in [
-        ("requests: &[u64],", "requests.as_ptr() => *const u64,"),
-        ("request_names: &[u8],", "names.as_ptr() => *const u8,"),
-        ("answers: &mut [u64],", "answers.as_mut_ptr() => *mut u64,"),
-    ] {
-        let export = PROVED.split("extern \"C\" fn skein_");
-        let export = export.skip(1).find(|export| export.starts_with("batch("));
-        let (parameters, _) = export.unwrap().split_once(") -> u64").unwrap();
-        assert!(parameters.contains(proved), "{proved}");
-        assert!(batch.contains(declared), "{declared}");
-    }
+    let places = [
+        "requests.as_ptr() => *const u64,",
+        "names.as_ptr() => *const u8,",
+        "answers.as_mut_ptr() => *mut u64,",
+    ]
+    .map(|declared| batch.find(declared).expect(declared));
+    assert!(places.is_sorted());
 }
