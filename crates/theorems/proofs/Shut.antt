@@ -73,11 +73,6 @@ pub live-same : (es es′ : List ℕ) (x : ℕ) → kind es′ x ≡ kind es x �
 unfolding live
 live-same es es′ x e l = rw e l
 
--- entries of one kind can hold the same rights
-pub rights-same : (es es′ : List ℕ) (x y : ℕ) → kind es′ x ≡ kind es y → entryRights es′ x ≡ entryRights es y
-unfolding entryRights isDir
-rights-same es es′ x y e = rw e refl
-
 -- One change of the tree: what is not gone keeps its kind and its object, and its parent is a directory that was there before and is not gone.
 pub record Frame (es es′ : List ℕ) (gone : ℕ → Bool) : Type 0 where
   pub keeps-kind : (x : ℕ) → live es x ≡ true → gone x ≡ false → kind es′ x ≡ kind es x
