@@ -44,11 +44,11 @@ use Rattle.tree.specs.Exchange.{exchangeNames, exchangeShape, exchangeVerdict, 
 use Rattle.theorems.specs.Calls.{Call, create-ruleset, close-ruleset, add-path-rule, add-port-rule, restrict, layer-rules, clone, end-thread, set-no-new-privs, set-admin, access, port, task, create, remove, link, rename, exchange, outcomeOf, after, caller, isDone, wouldFree, frees}
 use Rattle.theorems.specs.Claim.{domainOf}
 use Rattle.theorems.proofs.Naming.{call-cases, done-named}
-use Rattle.theorems.proofs.Shut.{gives, Shut, shut-up, Frame, Above}
-use Rattle.kept_tree.proofs.Clear.{Childless, childless}
+use Rattle.theorems.proofs.Shut.{gives, Shut, shut-up, Above}
+use Rattle.kept_tree.proofs.Clear.{childless}
 use Rattle.kept_tree.proofs.Fill.{free-entry}
 use Rattle.kept_tree.proofs.Written.{put-other, length-move, live-dir}
-use Rattle.theorems.proofs.Edits.{at-parent, inside, still-frame, fill-frame, clear-frame, move-frame, replace-frame, swap-frame}
+use Rattle.kept_tree.proofs.Edits.{Frame, Childless, at-parent, inside, still-frame, fill-frame, clear-frame, move-frame, replace-frame, swap-frame}
 use Rattle.theorems.proofs.Contained.{shut-there, shut-back}
 
 pub record Step (T : Tables) (u : ℕ) (es′ : List ℕ) (gone : ℕ → Bool) : Type 0 where
