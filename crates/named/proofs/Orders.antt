@@ -1,24 +1,25 @@
--- The order of refusals with names, beside document 01's: once the checks put first have passed, the two lists come to the same number. So code makes those
--- checks and then document 01's as they stand. Assumes nothing.
+-- The order of refusals with names: a good name that is taken is EEXIST before all that comes after it; and beside document 01's order: once the checks put
+-- first have passed, the two lists come to the same number. So code makes those checks and then document 01's as they stand. Assumes nothing.
 use mathlib.Core.Path.{_≡_, refl, sym, _∙_}
-use mathlib.Core.Bool.{Bool, false, not}
+use mathlib.Core.Bool.{Bool, true, false, not}
 use mathlib.Core.List.{List, [], _∷_, _++_}
 use Prim.Native.Nat.{ℕ, _≤_}
+use native.Mathlib.Omega.{arith}
 use lib.Dec.{eqb}
 use lib.ListN.{length}
 use borrow.Author.Tests.{eq-eqb, ne-eqb, ltb-false}
 use Rattle.laws.specs.Refusals.{Check, _⇒_, first}
 use Rattle.laws.proofs.Bools.{not-of-true}
-use Rattle.laws.proofs.Refusals.{Refusing, none, miss, first-is, passed}
+use Rattle.laws.proofs.Refusals.{Refusing, none, miss, first-is, passed, join-stop}
 use Rattle.laws.proofs.Joined.{join-left, join-right, join-past}
-use Rattle.access.specs.Errno.{EPERM, EBUSY, ENOTDIR, EINVAL}
+use Rattle.access.specs.Errno.{EPERM, EBUSY, EEXIST, ENOTDIR, EINVAL}
 use Rattle.tables.specs.Tables.{Tables, parent, live, isDir}
 use Rattle.tables.proofs.Blames.{Plain}
 use Rattle.tree.specs.Entries.{unknownKind, isAbove, replacing}
 use Rattle.tree.specs.Create.{createShape, createVerdict, createLater, treeCreateChecks}
 use Rattle.tree.specs.Link.{linkShape, linkVerdict, linkLater, linkChecks}
 use Rattle.tree.specs.Rename.{renameNames, renameShape, renameVerdict, renameLater, renameChecks}
-use Rattle.names.specs.Names.{maxName, nameChecks}
+use Rattle.names.specs.Names.{maxName, nameChecks, taken}
 use Rattle.names.proofs.Bearer.{Bears, bearer-not}
 use Rattle.named.specs.Named.{Named}
 use Rattle.named.specs.Tree.{createTarget, newName, createBefore, createNamedChecks, linkTarget, linkBefore, linkNamedChecks, replacedBy, renameBefore, renameNamedChecks}
@@ -42,6 +43,24 @@ name-early n = (tt, tt)
 pub new-early : (es ns : List ℕ) (d : ℕ) (n : List ℕ) → Early (newName es ns d n)
 unfolding newName nameChecks
 new-early es ns d n = (tt, tt)
+
+-- ---- a new name that is good and taken, past the target's checks: EEXIST, whatever the rest is
+module _ (N : Named) (d : ℕ) (n : List ℕ) (good : first (nameChecks n) ≡ 0) (is-taken : taken (N .core .entries) (N .names) d n ≡ true) where
+  taken-first : (target rest : List Check) → Refusing target → first target ≡ 0 → first ((target ++ newName (N .core .entries) (N .names) d n) ++ rest) ≡ EEXIST
+  unfolding newName nameChecks first
+  taken-first target rest r z =
+      let new = newName (N .core .entries) (N .names) d n in
+      let here : first new ≡ EEXIST = join-past (nameChecks n) (taken (N .core .entries) (N .names) d n ⇒ EEXIST ∷ []) tt good ∙ (rw is-taken refl) in
+      let there : EEXIST ≡ first (target ++ new) = sym (join-past target new r z ∙ here) in
+      sym (join-stop (target ++ new) rest there (λ z. omega arith))
+
+  pub create-taken : (t k : ℕ) → first (createTarget (N .core .entries) (N .core .threads) t d) ≡ 0 → first (createNamedChecks N t d k n) ≡ EEXIST
+  unfolding createNamedChecks createBefore createTarget
+  create-taken t k z = taken-first (createTarget (N .core .entries) (N .core .threads) t d) _ tt z
+
+  pub link-taken : (t s : ℕ) → first (linkTarget (N .core .entries) (N .core .threads) t s d) ≡ 0 → first (linkNamedChecks N t s d n) ≡ EEXIST
+  unfolding linkNamedChecks linkBefore linkTarget
+  link-taken t s z = taken-first (linkTarget (N .core .entries) (N .core .threads) t s d) _ tt z
 
 -- a name that passed its checks is short
 name-fits : (n : List ℕ) → first (nameChecks n) ≡ 0 → length n ≤ maxName

@@ -9,6 +9,7 @@ use Rattle.laws.specs.Refusals.{first}
 use Rattle.laws.proofs.Refusals.{none, miss, first-is}
 use Rattle.access.specs.declared.errno.Reply.the-variants.{Done}
 use Rattle.tables.specs.Tables.{parent, object, live}
+use Rattle.tables.specs.Outcome.{errorOf}
 use Rattle.sound.proofs.Facts.{facts}
 use Rattle.tree.specs.declared.Replaced.the-variants.{Entry}
 use Rattle.tree.specs.Entries.{replacing, sameObject}
@@ -19,12 +20,15 @@ use Rattle.names.proofs.Facts.{Name, name-facts, names, named-of, named-dead}
 use Rattle.names.proofs.Paths.{bearer-is}
 use Rattle.named.specs.Named.{Named, namedSound, namedOutcome, freshenedNamed}
 use Rattle.named.specs.Tree.{replacedBy, renameNamedChecks, renamedNames, renameNamed}
-use Rattle.named.specs.Calls.{rename, outcomeNamed, replyNamed, allNamed}
+use Rattle.named.specs.Calls.{NamedCall, create, link, rename, outcomeNamed, replyNamed, allNamed}
+use Rattle.named.specs.Layer.{refusalsNamed}
 use Rattle.named.specs.Promise.{NamesKept, NamesPromised}
+use Rattle.named.proofs.Orders.{create-taken, link-taken}
 use Rattle.named.proofs.Made.{core-sound, names-sound, wayMade, way-goes, made}
 use Rattle.named.proofs.Listed.{renameWay}
 use Rattle.named.proofs.Kept.{kept-all}
 use Rattle.named.proofs.Fresh.{freshened-sound}
+use Rattle.named.proofs.Layer.{layer-named}
 use Rattle.named.proofs.Lookup.{lookup-path}
 use Rattle.named.proofs.Unsound.{not-unsound}
 
@@ -76,9 +80,17 @@ module _ (N : Named) (t s : ℕ) (h : namedSound N ≡ true) (l : live (N .core 
       let m = made N W q in
       sym (way-goes N W (m .is-sound) (m .passed) (m .none)) ∙ idle
 
+-- ---- a taken name
+refused-first : (N : Named) (c : NamedCall) {e : ℕ} → namedSound N ≡ true → first (refusalsNamed N c) ≡ e → errorOf (replyNamed N c) ≡ e
+unfolding first
+refused-first N c h q = layer-named .number N c ∙ (rw h q)
+
 pub names-promised : NamesPromised
+unfolding refusalsNamed
 names-promised = record {
   kept = λ N cs h. on-sound (allNamed N cs) (kept-all N cs h);
   fresh = λ N level cs r. on-sound (allNamed (freshenedNamed N level .left) cs) (kept-all (freshenedNamed N level .left) cs (freshened-sound N level r));
   own-name = own-name;
+  create-taken = λ N t d k n h z g q. refused-first N (create t d k n) h (create-taken N d n g q t k z);
+  link-taken = λ N t s d n h z g q. refused-first N (link t s d n) h (link-taken N d n g q t s z);
 }

@@ -6,16 +6,17 @@ use Prim.Native.Nat.{ℕ, _≤_, _<_}
 use lib.ListN.{length}
 use Rattle.laws.specs.Cells.{zeros}
 use Rattle.laws.specs.Refusals.{first}
-use Rattle.access.specs.Errno.{EIO}
+use Rattle.access.specs.Errno.{EIO, EEXIST}
 use Rattle.access.specs.Limits.{maxEntries}
 use Rattle.access.specs.declared.errno.Reply.the-variants.{Done}
 use Rattle.tables.specs.Tables.{parent, live}
 use Rattle.tables.specs.Outcome.{errorOf}
 use Rattle.theorems.specs.Calls.{isDone}
-use Rattle.names.specs.Names.{nameChecks, rowAt, nameAt}
+use Rattle.names.specs.Names.{nameChecks, rowAt, nameAt, taken}
 use Rattle.names.specs.Paths.{maxPath, pathOf}
 use Rattle.named.specs.Named.{Named, namedSound, namedOutcome, freshenedNamed}
-use Rattle.named.specs.Calls.{NamedCall, rename, lookup, outcomeNamed, replyNamed, allNamed}
+use Rattle.named.specs.Tree.{createTarget, linkTarget}
+use Rattle.named.specs.Calls.{NamedCall, create, link, rename, lookup, outcomeNamed, replyNamed, allNamed}
 
 pub record NamesKept (N : Named) : Type 0 where
   pub is-sound : namedSound N ≡ true
@@ -41,3 +42,9 @@ pub record NamesPromised : Type 0 where
   pub own-name : (N : Named) (t s : ℕ) → namedSound N ≡ true → live (N .core .entries) s ≡ true → (s ≡ 0 → ⊥)
       → isDone (replyNamed N (rename t s (parent (N .core .entries) s) (nameAt (N .names) s))) ≡ true
       → outcomeNamed N (rename t s (parent (N .core .entries) s) (nameAt (N .names) s)) ≡ namedOutcome (Done 0) N
+  -- "after the target's ENOTDIR come a bad name .., then for create and link a taken one, EEXIST": of whatever kind the new entry is to be, an unknown one too
+  pub create-taken : (N : Named) (t d k : ℕ) (n : List ℕ) → namedSound N ≡ true → first (createTarget (N .core .entries) (N .core .threads) t d) ≡ 0
+      → first (nameChecks n) ≡ 0 → taken (N .core .entries) (N .names) d n ≡ true → errorOf (replyNamed N (create t d k n)) ≡ EEXIST
+  -- and whatever the source of a link is, a directory too
+  pub link-taken : (N : Named) (t s d : ℕ) (n : List ℕ) → namedSound N ≡ true → first (linkTarget (N .core .entries) (N .core .threads) t s d) ≡ 0
+      → first (nameChecks n) ≡ 0 → taken (N .core .entries) (N .names) d n ≡ true → errorOf (replyNamed N (link t s d n)) ≡ EEXIST
