@@ -1,0 +1,2 @@
+-- The queue's slots as records.
+pub mod Slots
