@@ -1,5 +1,3 @@
-pub mod Read
-pub mod Steps
 pub mod Locals
 pub mod Named
 pub mod Tables

@@ -11,10 +11,10 @@ use lib.ListN.{length}
 use borrow.Author.Tests.{eqb-true, eq-eqb, ltb-false}
 use Rattle.laws.specs.Refusals.{first}
 use Rattle.laws.proofs.Bools.{clash}
-use Rattle.queue_slots.specs.declared.Slot.{Slot}
-use Rattle.queue_slots.specs.Slots.{statesOf, slotChecks, choice}
-use Rattle.queue_slots.proofs.Read.{slotAt, eight}
-use Rattle.queue_slots.proofs.Steps.{post-inside}
+use Rattle.slots.specs.declared.Slot.{Slot}
+use Rattle.slots.specs.Slots.{statesOf, slotChecks, choice}
+use Rattle.slots.proofs.Read.{slotAt, eight}
+use Rattle.slots.proofs.Steps.{post-inside}
 
 -- ---- the machine's tests
 pub ne-of : {a c : ℕ} → T (not (eqb a c)) → a ≡ c → ⊥

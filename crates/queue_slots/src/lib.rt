@@ -1,87 +1,24 @@
-// The queue as records: its slots are a slice of structs and its cursor lies in a struct, each lent by `&mut`. The functions over them are thin: they
-// take the structs apart, call covered functions on numbers, and write back.
-use access::errno::Errno;
+// Posts and turns over a queue of records: the slots are a slice of structs, and the cursor lies in a struct, each lent by `&mut`. The functions are thin:
+// they take the structs apart, call covered functions on numbers, and write back. Their proofs are walks by hand.
 use access::errno::Reply;
-use cells::read;
 use queue::ANSWERED;
 use queue::Answer;
 use queue::Served;
 use queue::WAITING;
-use queue::next_waiting;
-use queue::states_known;
+use slots::Queue;
+use slots::Request;
+use slots::Slot;
+use slots::admit;
+use slots::pick;
+use slots::said;
 ghost use mathlib.Core.Path.{_≡_};
-ghost use mathlib.Core.List.{[], _∷_};
-ghost use Rattle.laws.specs.Refusals.{first};
 ghost use Rattle.access.specs.Reply.{replyTo};
 ghost use Rattle.named.specs.Slices.{before};
 ghost use Rattle.named.specs.Queue.{answerOf};
 ghost use Rattle.queue.specs.Queue.{posted, turned};
 ghost use Rattle.queue.specs.Queue.{post as postOf, turn as turnOf};
-ghost use Rattle.queue_slots.specs.Slots.{queueOf, statesSound, slotChecks, choice, said as saidOf};
-
-// What is asked of the tables.
-pub struct Request {
-    pub thread: u64,
-    pub entry: u64,
-    pub rights: u64,
-}
-
-pub struct Slot {
-    pub request: Request,
-    pub state: u64,
-    pub answer: Answer,
-}
-
-// The cursor is the slot served last.
-pub struct Queue {
-    pub cursor: u64,
-}
-
-fn sound(states: &[u64], cursor: u64) -> bool
-    ensures { λ r. ⌜ r ≡ statesSound (now (states .entry)) cursor ⌝ }
-{
-    if cursor >= 8 {
-        return false;
-    }
-    if states.len() != 8 {
-        return false;
-    }
-    states_known(states)
-}
-
-fn check(states: &[u64], cursor: u64, slot: u64) -> u64
-    ensures { λ r. ⌜ r ≡ first (slotChecks (now (states .entry)) cursor slot) ⌝ }
-{
-    if !sound(states, cursor) {
-        return Errno::EIO.0;
-    }
-    if slot >= 8 {
-        return Errno::EINVAL.0;
-    }
-    if read(states, slot as usize) == WAITING {
-        return Errno::EAGAIN.0;
-    }
-    0
-}
-
-// The first refusal of a post, from the cursor, the slot and the eight states; 0 for none.
-fn admit(
-    cursor: u64,
-    slot: u64,
-    a: u64,
-    b: u64,
-    c: u64,
-    d: u64,
-    e: u64,
-    f: u64,
-    g: u64,
-    h: u64,
-) -> u64
-    ensures { λ r. ⌜ r ≡ first (slotChecks (a ∷ b ∷ c ∷ d ∷ e ∷ f ∷ g ∷ h ∷ []) cursor slot) ⌝ }
-{
-    let states = [a, b, c, d, e, f, g, h];
-    check(&states, cursor, slot)
-}
+ghost use Rattle.slots.specs.Slots.{queueOf};
+ghost use Rattle.slots.specs.Slots.{said as saidOf};
 
 // Writes a request to a slot: the first refusal, 0 for none.
 fn put<'q, 's>(q: &'q Queue, slots: &'s mut [Slot], slot: u64, request: Request) -> u64
@@ -131,23 +68,6 @@ pub fn post<'q, 's>(
         rights,
     };
     Reply::to(put(q, slots, slot, request))
-}
-
-fn choose(states: &[u64], cursor: u64) -> u64
-    ensures { λ r. ⌜ r ≡ choice (now (states .entry)) cursor ⌝ }
-{
-    if !sound(states, cursor) {
-        return 9;
-    }
-    next_waiting(states, cursor)
-}
-
-// The slot that a turn serves, from the cursor and the eight states; 8 if none waits, 9 for EIO.
-fn pick(cursor: u64, a: u64, b: u64, c: u64, d: u64, e: u64, f: u64, g: u64, h: u64) -> u64
-    ensures { λ r. ⌜ r ≡ choice (a ∷ b ∷ c ∷ d ∷ e ∷ f ∷ g ∷ h ∷ []) cursor ⌝ }
-{
-    let states = [a, b, c, d, e, f, g, h];
-    choose(&states, cursor)
 }
 
 // What the tables answer a request.
@@ -226,19 +146,6 @@ fn serve<'t, 'q, 's>(
             k
         }
     }
-}
-
-// What a turn says of a choice.
-fn said(k: u64) -> Served
-    ensures { λ r. ⌜ r ≡ saidOf k ⌝ }
-{
-    if k < 8 {
-        return Served::Slot(k);
-    }
-    if k == 8 {
-        return Served::Idle;
-    }
-    Served::Refused(Errno::EIO)
 }
 
 // Answers the next waiting slot after the cursor, and moves the cursor on in place.

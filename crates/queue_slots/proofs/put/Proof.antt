@@ -50,25 +50,25 @@ use Rattle.laws.specs.Refusals.{first}
 use Rattle.access.specs.Reply.{replyTo}
 use Rattle.queue.specs.Queue.{posted}
 use Rattle.queue.specs.Queue.{post as postOf}
-use Rattle.queue_slots.specs.declared.Request.{Request}
-use Rattle.queue_slots.specs.declared.Slot.{Slot}
-use Rattle.queue_slots.specs.declared.Queue.{Queue}
-use Rattle.queue_slots.specs.Slots.{queueOf, slotChecks}
-use Rattle.queue_slots.proofs.Read.{requested, noSlot, slotAt}
-use Rattle.queue_slots.proofs.Steps.{post-short, post-refused, post-done}
+use Rattle.slots.specs.declared.Request.{Request}
+use Rattle.slots.specs.declared.Slot.{Slot}
+use Rattle.slots.specs.declared.Queue.{Queue}
+use Rattle.slots.specs.Slots.{queueOf, slotChecks}
+use Rattle.slots.proofs.Read.{requested, noSlot, slotAt}
+use Rattle.slots.proofs.Steps.{post-short, post-refused, post-done}
 use Rattle.queue_slots.proofs.Locals.{parts, tyOf, Blocks, envOf, blockAt, locals, dies, allocate, blank, let-go}
 use Rattle.queue_slots.proofs.Named.{named}
 use Rattle.queue_slots.proofs.Walks.{ne-of, eq-of, in-list, wide, wide-ok, states, code-is, inside}
-use Rattle.queue_slots.proofs.Slot as T
-use Rattle.queue_slots.proofs.Slot.Laws as T′
-use Rattle.queue_slots.proofs.Request as TR
-use Rattle.queue_slots.proofs.Request.Laws as TR′
-use Rattle.queue_slots.proofs.Queue as TQ
-use Rattle.queue_slots.proofs.Queue.Laws as TQ′
-use Rattle.queue_slots.proofs.admit as admit
-use Rattle.queue_slots.proofs.admit.Symbol as admit-def
-use Rattle.queue_slots.proofs.admit.Symbol.{name as #queue_slots·admit}
-use Rattle.queue_slots.proofs.admit.Met as admit-thm
+use Rattle.slots.proofs.Slot as T
+use Rattle.slots.proofs.Slot.Laws as T′
+use Rattle.slots.proofs.Request as TR
+use Rattle.slots.proofs.Request.Laws as TR′
+use Rattle.slots.proofs.Queue as TQ
+use Rattle.slots.proofs.Queue.Laws as TQ′
+use Rattle.slots.proofs.admit as admit
+use Rattle.slots.proofs.admit.Symbol as admit-def
+use Rattle.slots.proofs.admit.Symbol.{name as #slots·admit}
+use Rattle.slots.proofs.admit.Met as admit-thm
 use Rattle.queue_slots.proofs.put.Key.{name as #queue_slots·put}
 use Rattle.queue_slots.proofs.put as put
 use Rattle.queue_slots.proofs.put.Statement as stated
@@ -219,7 +219,7 @@ module _ {M : Type 1} (𝓤 : URA M) (H : Heap 𝓤) (A : Atoms 𝓤) (W : Given
       owned ! u64 (Is u64) (uint-makes 𝓤 H A W w64) k _ (refl, gk) $ fjoin ! $ owned ! u64 (Is u64) (uint-makes 𝓤 H A W w64) h _ (refl, gh) $ fjoin ! $
       move ! (1 ∷ 0 ∷ []) $ join ! $ frame ! $ done !
 
-  module _ (C : Calls 𝓤 H) (Λ : Loops 𝓤 H) (fm : FmC 𝓤 H (W .laws) C) (known : Triple 𝓤 (C #queue_slots·admit) (Admit 𝓤 H A mem run)) (gn : Room R (length ys)) where
+  module _ (C : Calls 𝓤 H) (Λ : Loops 𝓤 H) (fm : FmC 𝓤 H (W .laws) C) (known : Triple 𝓤 (C #slots·admit) (Admit 𝓤 H A mem run)) (gn : Room R (length ys)) where
     module _ (bs : Blocks tys) where
       abbrev E : List (Ty × ℕ)
       E = envOf tys bs
@@ -340,7 +340,7 @@ module _ {M : Type 1} (𝓤 : URA M) (H : Heap 𝓤) (A : Atoms 𝓤) (W : Given
         reads bs (eq-of t) (cursor-fits hq gq)))))
 
 module _ {M : Type 1} (𝓤 : URA M) (H : Heap 𝓤) (A : Atoms 𝓤) (W : Given 𝓤 H A) (mem : Memory → SProp 𝓤) (run : Routine → Fun 𝓤) where
-  put-walks : (C : Calls 𝓤 H) (Λ : Loops 𝓤 H) → FmC 𝓤 H (W .laws) C → Triple 𝓤 (C #queue_slots·admit) (Admit 𝓤 H A mem run)
+  put-walks : (C : Calls 𝓤 H) (Λ : Loops 𝓤 H) → FmC 𝓤 H (W .laws) C → Triple 𝓤 (C #slots·admit) (Admit 𝓤 H A mem run)
       → Walks 𝓤 H A put.ended stayed (WpFn 𝓤 H C Λ code.function) (put.clauses 𝓤 H A mem run)
   put-walks C Λ fm known = walked 𝓤 H A put.ended stayed (put.clauses 𝓤 H A mem run) (WpFn 𝓤 H C Λ code.function)
       (λ κs. (ptr-vals, (slice-vals, (uint-vals w64, (LL.vals TR.the-type TR′.the-laws, tt)))))
@@ -350,7 +350,7 @@ module _ {M : Type 1} (𝓤 : URA M) (H : Heap 𝓤) (A : Atoms 𝓤) (W : Given
       walk 𝓤 H A W mem run (κs .0) (κs .1 .0) (qs .0) (qs .1 .0) (a .0 .ptr .0) (a .0 .ptr .1) (a .0 .name) (a .0 .now) (a .1 .0 .ptr .0) (a .1 .0 .ptr .1) (a .1 .0 .name) (a .1 .0 .now) (a .1 .1 .0) (a .1 .1 .1 .0)
       (are .1 .1 .0 .1) (fields .0 .1) (fields .1 .0 .1) (fields .1 .1 .0 .1) C Λ fm known (are .1 .0 .0 .1)))
 
-put-meets : {M : Type 1} (𝓤 : URA M) (H : Heap 𝓤) (A : Atoms 𝓤) → Given 𝓤 H A → (mem : Memory → SProp 𝓤) (run : Routine → Fun 𝓤) (𝓣 : Tables 𝓤 H) → Triple 𝓤 (𝓣 .C #queue_slots·admit) (Admit 𝓤 H A mem run)
+put-meets : {M : Type 1} (𝓤 : URA M) (H : Heap 𝓤) (A : Atoms 𝓤) → Given 𝓤 H A → (mem : Memory → SProp 𝓤) (run : Routine → Fun 𝓤) (𝓣 : Tables 𝓤 H) → Triple 𝓤 (𝓣 .C #slots·admit) (Admit 𝓤 H A mem run)
     → Meets 𝓤 H A put.signature (WpFn 𝓤 H (𝓣 .C) (𝓣 .Λ) code.function) (put.spec 𝓤 H A mem run)
 put-meets 𝓤 H A W mem run 𝓣 known =
     walk-meets 𝓤 H A put.ended stayed W (goes-none-ref 𝓤 H A W 2 (0 ∷ []) tt (plain (λ _. Rq)) yes, (goes-slice 𝓤 H A W 2 1 tt (plain (λ _. R)), (goes-none 𝓤 H A W 2 (λ _. u64) yes (λ κs x f. refl), (goes-none 𝓤 H A W 2 (λ _. TR.the-row) yes (λ κs x f. refl), tt)))) (put.clauses 𝓤 H A mem run)
@@ -362,4 +362,4 @@ put-spec 𝓤 H 𝓜 𝓖 𝓡 =
     entered 𝓤 H (tripleOf 𝓤 H (𝓖 .A) put.signature (put.spec 𝓤 H (𝓖 .A) (𝓜 .mem) (𝓡 .run)))
     (tables 𝓤 H 𝓜 𝓡 code.env .C) (tables 𝓤 H 𝓜 𝓡 code.env .Λ) #queue_slots·put code.function (code.unfolded 𝓤 H 𝓜 𝓡)
     (put-meets 𝓤 H (𝓖 .A) (givenOf 𝓤 H 𝓜 𝓖) (𝓜 .mem) (𝓡 .run) (tablesOf 𝓤 H 𝓜 (tables 𝓤 H 𝓜 𝓡 code.env))
-    (cited 𝓤 H (Admit 𝓤 H (𝓖 .A) (𝓜 .mem) (𝓡 .run)) 𝓜 𝓡 code.env #queue_slots·admit admit-def.routine code.calls-queue-slots·admit (admit-thm.met 𝓤 H 𝓜 𝓖 𝓡)))
+    (cited 𝓤 H (Admit 𝓤 H (𝓖 .A) (𝓜 .mem) (𝓡 .run)) 𝓜 𝓡 code.env #slots·admit admit-def.routine code.calls-slots·admit (admit-thm.met 𝓤 H 𝓜 𝓖 𝓡)))

@@ -1,9 +1,9 @@
 -- Assumes nothing.
 use mathlib.Core.Path.{refl}
 use borrow.Author.Tests.{lt-ltb, le-ltb, eq-eqb, ne-eqb}
-use Rattle.queue_slots.specs.Slots.{said}
-use Rattle.queue_slots.proofs.said.Statement.{statement}
-use Rattle.queue_slots.proofs.said.Tie as tie
+use Rattle.slots.specs.Slots.{said}
+use Rattle.slots.proofs.said.Statement.{statement}
+use Rattle.slots.proofs.said.Tie as tie
 
 pub said-spec : {M : Type 1} → statement M
 unfolding said

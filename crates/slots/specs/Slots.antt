@@ -12,7 +12,7 @@ use Rattle.queue.specs.Queue as core
 use Rattle.queue.specs.declared.Served.{Served}
 use Rattle.queue.specs.declared.Served.the-variants.{Idle, Refused}
 use Rattle.queue.specs.declared.Served.the-variants.{Slot as Serving}
-use Rattle.queue_slots.specs.declared.Slot.{Slot}
+use Rattle.slots.specs.declared.Slot.{Slot}
 
 -- ---- the records, read as the parallel lists of crate queue
 unfoldable pub requestsOf : List Slot → List ℕ

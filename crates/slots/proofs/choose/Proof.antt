@@ -1,9 +1,9 @@
 -- Assumes nothing.
 use mathlib.Core.Path.{sym, _∙_}
 use borrow.Author.Tests.{not-true, not-false}
-use Rattle.queue_slots.specs.Slots.{choice}
-use Rattle.queue_slots.proofs.choose.Statement.{statement}
-use Rattle.queue_slots.proofs.choose.Tie as tie
+use Rattle.slots.specs.Slots.{choice}
+use Rattle.slots.proofs.choose.Statement.{statement}
+use Rattle.slots.proofs.choose.Tie as tie
 
 pub choose-spec : {M : Type 1} → statement M
 unfolding choice

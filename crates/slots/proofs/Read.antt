@@ -1,16 +1,15 @@
 -- Records read as parallel lists: their lengths, one record written, one read, and no two lists read alike. Assumes nothing.
-use mathlib.Core.Path.{_≡_, refl, sym, ap, _∙_}
-use mathlib.Core.Bool.{Bool, true, false}
+use mathlib.Core.Path.{_≡_, refl, ap}
 use mathlib.Core.List.{List, [], _∷_}
 use Prim.Native.Nat.{ℕ, zero, suc, _+_, _*_}
 use native.Mathlib.Omega.{arith}
-use lib.ListN.{length, getD, set}
-use Rattle.laws.specs.Cells.{cell, putCell}
+use lib.ListN.{length, getD, set, drop}
+use Rattle.laws.specs.Cells.{cell}
 use Rattle.queue.specs.declared.Answer.{Answer}
-use Rattle.queue.specs.Queue.{queue, waiting, answered, putRequest, putAnswer}
-use Rattle.queue_slots.specs.declared.Request.{Request}
-use Rattle.queue_slots.specs.declared.Slot.{Slot}
-use Rattle.queue_slots.specs.Slots.{requestsOf, statesOf, answersOf}
+use Rattle.queue.specs.Queue.{Queue, waiting, answered, putRequest, putAnswer}
+use Rattle.slots.specs.declared.Request.{Request}
+use Rattle.slots.specs.declared.Slot.{Slot}
+use Rattle.slots.specs.Slots.{requestsOf, statesOf, answersOf, queueOf}
 
 -- ---- what a post and a turn make of a record, and what stands past a list's end
 abbrev pub requested : Slot → Request → Slot
@@ -116,3 +115,20 @@ unfolding requestsOf
 rights-at [] k = refl
 rights-at (x ∷ ys) zero = refl
 rights-at (x ∷ ys) (suc k) = rw (third k 2) (rights-at ys k)
+
+-- ---- no two lists are read alike
+parts-one : (ys zs : List Slot) → requestsOf ys ≡ requestsOf zs → statesOf ys ≡ statesOf zs → answersOf ys ≡ answersOf zs → ys ≡ zs
+unfolding requestsOf statesOf answersOf
+parts-one [] [] p q r = refl
+parts-one [] (z ∷ zs) p q r = absurd (let l = ap length q in omega arith)
+parts-one (y ∷ ys) [] p q r = absurd (let l = ap length q in omega arith)
+parts-one (y ∷ ys) (z ∷ zs) p q r = λ i.
+    record {
+      request = record { thread = ap (λ (l : List ℕ). getD l 0 0) p i; entry = ap (λ (l : List ℕ). getD l 1 0) p i; rights = ap (λ (l : List ℕ). getD l 2 0) p i };
+      state = ap (λ (l : List ℕ). getD l 0 0) q i;
+      answer = record { error = ap (λ (l : List ℕ). getD l 0 0) r i; layer = ap (λ (l : List ℕ). getD l 1 0) r i; rights = ap (λ (l : List ℕ). getD l 2 0) r i; read = ap (λ (l : List ℕ). getD l 3 0) r i };
+    } ∷ parts-one ys zs (ap (drop 3) p) (ap (drop 1) q) (ap (drop 4) r) i
+
+pub read-once : (ys zs : List Slot) (c d : ℕ) → queueOf ys c ≡ queueOf zs d → (ys ≡ zs) × (c ≡ d)
+read-once ys zs c d e =
+    (parts-one ys zs (ap (λ (Q : Queue). Q .requests) e) (ap (λ (Q : Queue). Q .states) e) (ap (λ (Q : Queue). Q .answers) e), ap (λ (Q : Queue). Q .cursor) e)

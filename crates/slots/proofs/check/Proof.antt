@@ -1,8 +1,8 @@
 -- Assumes nothing.
 use Rattle.laws.proofs.Refusals.{first-is, refusals, reads}
-use Rattle.queue_slots.specs.Slots.{slotChecks}
-use Rattle.queue_slots.proofs.check.Statement.{statement}
-use Rattle.queue_slots.proofs.check.Tie as tie
+use Rattle.slots.specs.Slots.{slotChecks}
+use Rattle.slots.proofs.check.Statement.{statement}
+use Rattle.slots.proofs.check.Tie as tie
 
 pub check-spec : {M : Type 1} → statement M
 unfolding slotChecks

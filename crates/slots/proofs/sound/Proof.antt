@@ -1,8 +1,8 @@
 -- Assumes nothing.
 use Rattle.laws.proofs.Conditions.{all-is, conditions}
-use Rattle.queue_slots.specs.Slots.{statesSound}
-use Rattle.queue_slots.proofs.sound.Statement.{statement}
-use Rattle.queue_slots.proofs.sound.Tie as tie
+use Rattle.slots.specs.Slots.{statesSound}
+use Rattle.slots.proofs.sound.Statement.{statement}
+use Rattle.slots.proofs.sound.Tie as tie
 
 pub sound-spec : {M : Type 1} → statement M
 unfolding statesSound

@@ -1,25 +1,24 @@
 -- What a post and a turn over records owe: each way through them gives what the queue's definitions give. Assumes nothing.
-use mathlib.Core.Path.{_≡_, refl, sym, ap, _∙_}
-use mathlib.Core.Bool.{Bool, true, false, not, cond}
+use mathlib.Core.Path.{_≡_, refl, sym, _∙_}
+use mathlib.Core.Bool.{false}
 use mathlib.Core.List.{List, [], _∷_}
 use Prim.Native.Nat.{ℕ, zero, suc, _<_, _≤_}
 use native.Mathlib.Omega.{arith}
 use lib.Dec.{eqb, ltb}
-use lib.ListN.{length, getD, set}
+use lib.ListN.{length, set}
 use borrow.Author.Tests.{eqb-true, eq-eqb, ne-eqb, ltb-true, lt-ltb, le-ltb, not-false}
-use Rattle.laws.specs.Tests.{allBelow, allOf}
+use Rattle.laws.specs.Tests.{allBelow}
 use Rattle.laws.specs.Refusals.{first}
 use Rattle.laws.proofs.Bools.{split, agree}
 use Rattle.laws.proofs.Tests.{allOf-no, allOf-at, allOf-of, met, _also_}
 use Rattle.laws.proofs.Refusals.{passed}
-use Rattle.access.specs.Errno.{EIO}
 use Rattle.access.specs.Reply.{replyTo}
 use Rattle.queue.specs.declared.Answer.{Answer}
 use Rattle.queue.specs.Queue.{knownState, queueSound, postChecks, putIn, posted, post, waiting, stateAt, next, seek, nextWaiting, serve, turned, turn}
-use Rattle.queue_slots.specs.declared.Request.{Request}
-use Rattle.queue_slots.specs.declared.Slot.{Slot}
-use Rattle.queue_slots.specs.Slots.{requestsOf, statesOf, answersOf, queueOf, statesSound, slotChecks, choice, said}
-use Rattle.queue_slots.proofs.Read.{requested, answering, slotAt, length-states, length-requests, length-answers, set-states, set-requests, set-answers, answers-kept, requests-kept, thread-at, entry-at, rights-at}
+use Rattle.slots.specs.declared.Request.{Request}
+use Rattle.slots.specs.declared.Slot.{Slot}
+use Rattle.slots.specs.Slots.{requestsOf, statesOf, answersOf, queueOf, statesSound, slotChecks, choice, said}
+use Rattle.slots.proofs.Read.{requested, answering, slotAt, length-states, length-requests, length-answers, set-states, set-requests, set-answers, answers-kept, requests-kept, thread-at, entry-at, rights-at}
 
 -- ---- soundness
 pub sound-same : (ys : List Slot) (c : ℕ) → queueSound (queueOf ys c) ≡ statesSound (statesOf ys) c
