@@ -1,4 +1,4 @@
--- What the seven tables own, lent for one time, as one entry of a walk's context. Assumes `Given`.
+-- What the seven tables own, borrowed for one lifetime, as one entry of a walk's context. Assumes `Given`.
 --     andTables P      the tables and P, as they stand in the parameters of a function;  theirs, the tables alone
 --     apart, beside    from the one to the other and P, and back
 --     doubled          the tables are had twice

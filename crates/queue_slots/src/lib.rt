@@ -1,4 +1,4 @@
-// Posts and turns over a queue of records: the slots are a slice of structs, and the cursor lies in a struct, each lent by `&mut`. The functions are thin:
+// Posts and turns over a queue of records: the slots are a slice of structs, and the cursor lies in a struct, each behind a `&mut`. The functions are thin:
 // they take the structs apart, call covered functions on numbers, and write back. Their proofs are walks by hand.
 use access::errno::Reply;
 use queue::ANSWERED;
@@ -173,4 +173,45 @@ pub fn turn<'t, 'q, 's>(
         q,
         slots,
     ))
+}
+
+// What a turn says, and what it leaves.
+pub struct Turned {
+    pub said: Served,
+    pub slots: [Slot; 8],
+    pub queue: Queue,
+}
+
+// A turn of a queue that is passed and returned by value: a caller of it needs no walk.
+pub fn turn_once<'t>(
+    system: &'t [u64],
+    entries: &'t [u64],
+    rulesets: &'t [u64],
+    layers: &'t [u64],
+    pool: &'t [u64],
+    threads: &'t [u64],
+    names: &'t [u8],
+    queue: Queue,
+    slots: [Slot; 8],
+) -> Turned
+    ensures { λ r. ⌜ turned (r .said) (queueOf (r .slots) (r .queue .cursor)) ≡ turnOf (answerOf (before system entries rulesets layers pool threads names)) (queueOf slots (queue .cursor)) ⌝ }
+{
+    let mut q = queue;
+    let mut left = slots;
+    let said = turn(
+        system,
+        entries,
+        rulesets,
+        layers,
+        pool,
+        threads,
+        names,
+        &mut q,
+        &mut left,
+    );
+    Turned {
+        said,
+        slots: left,
+        queue: q,
+    }
 }
