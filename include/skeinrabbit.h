@@ -2,7 +2,7 @@
  * Skeinrabbit: a file broker that answers as Linux's Landlock would.
  *
  * All state lies in one `struct skein_tables`, which the caller owns. Make it fresh once, then pass it to every call. Nothing is
- * allocated, and a refused call changes no cell.
+ * allocated, and a refused call changes no cell. Requests that are to be answered in turn wait in a `struct skein_queue`.
  *
  * Every call answers a number of zero or more (a new entry, ruleset or thread where one is made, else 0), or a negative error
  * number. Each comment below lists a call's refusals in the order in which they are tested. Before all of them, every call but
@@ -16,12 +16,13 @@
  * directory has. Names and paths are bytes with a length and need no closing zero.
  *
  * Any cells and any numbers are answered. A call is defined if
- * - every pointer is valid for what it points to (a whole struct skein_tables, `size` bytes), aligned for its type and not NULL.
+ * - every pointer is valid for what it points to (a whole struct skein_tables or skein_queue, `size` bytes), aligned for its type
+ *   and not NULL.
  *   Only an attribute, a name or a path may be NULL, and counts as no bytes then, whatever its size, and a report;
- * - none of these overlap: the tables, the bytes of an attribute, a name or a path, a report, and the two places where
+ * - none of these overlap: the tables, a queue, the bytes of an attribute, a name or a path, a report, and the two places where
  *   skeinrabbit_layer_rules and skeinrabbit_component report;
  * - 96 KiB of stack are left (docs/PERFORMANCE.md), which a thread or coroutine with a small stack may not have;
- * - no other call on the same tables runs meanwhile, from a thread or from a signal handler. Calls on other tables may;
+ * - no other call on the same tables or the same queue runs meanwhile, from a thread or from a signal handler. Calls on others may;
  * - the program is for x86-64 Linux, as the archive is.
  *
  * What a broker on top of it must know (docs/BROKER.md):
@@ -53,6 +54,7 @@ extern "C" {
 #define SKEIN_MAX_DOMAIN_LAYERS 64 /* in one thread's domain */
 #define SKEIN_MAX_POOL_RULES 1024
 #define SKEIN_MAX_THREADS 8
+#define SKEIN_MAX_SLOTS 8 /* of a queue */
 #define SKEIN_MAX_ATTR_SIZE 4096
 #define SKEIN_MAX_PORT 65535
 #define SKEIN_MAX_NAME 48   /* bytes of an entry's name */
@@ -66,6 +68,10 @@ extern "C" {
 #define SKEIN_LAYER_CELLS 7
 #define SKEIN_THREAD_CELLS 4
 #define SKEIN_NAME_BYTES (1 + SKEIN_MAX_NAME)
+
+/* Cells of a slot's request and of its answer. */
+#define SKEIN_REQUEST_CELLS 3
+#define SKEIN_ANSWER_CELLS 4
 
 /* The seven tables. A free row is zero in every cell. */
 struct skein_tables {
@@ -84,6 +90,34 @@ struct skein_tables {
 	/* a row for each entry: length of its name, the name, zeros; the root's row is zero */
 	uint8_t names[SKEIN_MAX_ENTRIES * SKEIN_NAME_BYTES];
 };
+
+/*
+ * A queue of eight slots, each of which holds at most one waiting access request. It starts as SKEIN_FRESH_QUEUE:
+ *
+ *     static struct skein_queue queue = SKEIN_FRESH_QUEUE;
+ *
+ * The calls on it answer -EIO before all else if it is not sound: a cursor above 7, or a state that is none of the three.
+ */
+struct skein_queue {
+	/* what was posted last: thread, entry, rights */
+	uint64_t requests[SKEIN_MAX_SLOTS * SKEIN_REQUEST_CELLS];
+	/* SKEIN_SLOT_EMPTY, SKEIN_SLOT_WAITING or SKEIN_SLOT_ANSWERED */
+	uint64_t states[SKEIN_MAX_SLOTS];
+	/* what was answered last: error number or 0, and the cells of a struct skein_report */
+	uint64_t answers[SKEIN_MAX_SLOTS * SKEIN_ANSWER_CELLS];
+	/* the slot that was served last */
+	uint64_t cursor;
+};
+
+#define SKEIN_FRESH_QUEUE { { 0 }, { 0 }, { 0 }, SKEIN_MAX_SLOTS - 1 }
+
+/* States of a slot. */
+#define SKEIN_SLOT_EMPTY 0
+#define SKEIN_SLOT_WAITING 1
+#define SKEIN_SLOT_ANSWERED 2
+
+/* What a turn answers if no slot waits. */
+#define SKEIN_IDLE SKEIN_MAX_SLOTS
 
 /* File system rights, with Landlock's names and bits. */
 #define SKEIN_FS_EXECUTE (UINT64_C(1) << 0)
@@ -160,6 +194,7 @@ struct skein_tables {
 #define SKEIN_ENOTEMPTY 39
 #define SKEIN_ENOMSG 42
 #define SKEIN_EOPNOTSUPP 95
+#define SKEIN_MAX_ERROR 4095
 
 /*
  * A ruleset's attribute. Its masks are little-endian, so on a machine of the other order fill the bytes yourself.
@@ -195,10 +230,11 @@ struct skein_report {
  * The functions of the archive: each table as pointer and number of cells, then the arguments. The result is the success number,
  * or 2^64 minus the error number. Prefer the inline functions further down.
  *
- * The calls that only ask take tables that are const; skein_component takes none. A `report` may have any number of cells: those
- * that fit are written, and cells past them stay as they were.
+ * The calls that only ask, and skein_turn, take tables that are const; skein_component and skein_post take none. A `report` may have
+ * any number of cells: those that fit are written, and cells past them stay as they were. The parts of a queue may have any length, too;
+ * `cursor` is one cell, and a call on a queue with a part of a wrong length answers EIO.
  * Each pointer must be aligned (cells to 8 bytes) and valid for its length, and not NULL even if the length is 0. The tables, the
- * bytes of an attribute, a name or a path, a report and the report `part` must not overlap.
+ * parts of a queue, the bytes of an attribute, a name or a path, a report and the report `part` must not overlap.
  */
 #define SKEIN_TABLE_PARAMETERS(cell, byte) \
 	cell *system_cells, size_t system_length, cell *entries, size_t entries_length, cell *rulesets, \
@@ -235,6 +271,16 @@ extern uint64_t skein_exchange(SKEIN_TABLES, uint64_t thread, uint64_t source, u
 			       size_t report_length);
 extern uint64_t skein_lookup(SKEIN_CONST_TABLES, const uint8_t *path, size_t path_length);
 extern uint64_t skein_component(const uint8_t *path, size_t path_length, uint64_t place, uint64_t *part, size_t part_length);
+
+extern uint64_t skein_post(uint64_t *requests, size_t requests_length, uint64_t *states, size_t states_length, const uint64_t *answers,
+			   size_t answers_length, uint64_t *cursor, uint64_t slot, uint64_t thread, uint64_t entry, uint64_t rights);
+extern uint64_t skein_turn(SKEIN_CONST_TABLES, const uint64_t *requests, size_t requests_length, uint64_t *states, size_t states_length,
+			   uint64_t *answers, size_t answers_length, uint64_t *cursor);
+
+/* The parts of a queue as the arguments of an archive's function. */
+#define SKEIN_QUEUE_ARGUMENTS(q) \
+	(q)->requests, sizeof((q)->requests) / sizeof(uint64_t), (q)->states, sizeof((q)->states) / sizeof(uint64_t), \
+		(q)->answers, sizeof((q)->answers) / sizeof(uint64_t), &(q)->cursor
 
 /* The tables of a struct as the arguments of an archive's function. */
 #define SKEIN_TABLE_ARGUMENTS(t) \
@@ -538,6 +584,45 @@ static inline int64_t skeinrabbit_exchange(struct skein_tables *t, uint64_t thre
 	const uint64_t result = skein_exchange(SKEIN_TABLE_ARGUMENTS(t), thread, source, directory, entry, cells, SKEIN_REPORT_CELLS);
 
 	return skeinrabbit_reported(result, cells, report);
+}
+
+/*
+ * Posts an access request in a slot of a queue, where it waits for its turn. The slot may hold an answer, which stays in its cells. Any
+ * request is taken: thread, entry and rights are looked at when it is answered.
+ * EINVAL slot above 7; EAGAIN a request waits in the slot.
+ */
+static inline int64_t skeinrabbit_post(struct skein_queue *q, uint64_t slot, uint64_t thread, uint64_t entry, uint64_t rights)
+{
+	return skeinrabbit_answer(skein_post(SKEIN_QUEUE_ARGUMENTS(q), slot, thread, entry, rights));
+}
+
+/*
+ * Answers the next waiting slot after the one served last, going round; answers its number, or SKEIN_IDLE if no slot waits, and then
+ * nothing changes. The answer is that of skeinrabbit_access on these tables; -EIO, if they are not sound, is the slot's answer and not
+ * the turn's. A slot that waits is answered by one of the next eight turns, whatever is posted meanwhile.
+ */
+static inline int64_t skeinrabbit_turn(const struct skein_tables *t, struct skein_queue *q)
+{
+	return skeinrabbit_answer(skein_turn(SKEIN_TABLE_ARGUMENTS(t), SKEIN_QUEUE_ARGUMENTS(q)));
+}
+
+/*
+ * Reads what a turn answered in a slot: what skeinrabbit_access answers, with its report. It makes no call of the archive.
+ * EINVAL slot above 7; EAGAIN the slot is empty or its request waits, so that what its cells hold is no answer; EIO they hold no error
+ * number.
+ */
+static inline int64_t skeinrabbit_slot_answer(const struct skein_queue *q, uint64_t slot, struct skein_report *report)
+{
+	static const uint64_t none[SKEIN_ANSWER_CELLS] = { 0 };
+	const int answered = slot < SKEIN_MAX_SLOTS && q->states[slot] == SKEIN_SLOT_ANSWERED;
+	const uint64_t *const answer = answered ? q->answers + slot * SKEIN_ANSWER_CELLS : none;
+	uint64_t error = answer[0];
+
+	if (!answered)
+		error = slot < SKEIN_MAX_SLOTS ? SKEIN_EAGAIN : SKEIN_EINVAL;
+	if (error > SKEIN_MAX_ERROR)
+		error = SKEIN_EIO;
+	return skeinrabbit_reported(0 - error, answer + 1, report);
 }
 
 #ifdef __cplusplus

@@ -332,6 +332,68 @@ static void short_reports(struct skein_tables *t)
 	expect_cells(t, 5, 1, SKEIN_FS_WRITE_FILE, 3);
 }
 
+/* Takes a turn that must serve a slot, and reads its answer. */
+static void expect_served(struct skein_tables *t, struct skein_queue *q, int64_t slot, int64_t answer, struct skein_report *r)
+{
+	expect("turn", skeinrabbit_turn(t, q), slot);
+	expect("turn: cursor", (int64_t)q->cursor, slot);
+	expect("turn: answer", skeinrabbit_slot_answer(q, (uint64_t)slot, r), answer);
+}
+
+/* Requests in turn, on the worked tree with a layer that lets /cal be read. */
+static void queue(struct skein_tables *t)
+{
+	struct skein_queue q = SKEIN_FRESH_QUEUE;
+	struct skein_report r = { 9, 9, 9 };
+
+	worked_tree(t, SKEIN_FS_READ_FILE);
+	expect("cells of the queue", (int64_t)sizeof(q), 65 * 8);
+	expect("turn, none waits", skeinrabbit_turn(t, &q), SKEIN_IDLE);
+	expect("turn, none waits: cursor", (int64_t)q.cursor, 7);
+	expect("post", skeinrabbit_post(&q, 6, 0, 3, SKEIN_FS_WRITE_FILE), 0);
+	expect("post, again", skeinrabbit_post(&q, 6, 0, 3, SKEIN_FS_READ_FILE), -SKEIN_EAGAIN);
+	expect("post, slot 8", skeinrabbit_post(&q, SKEIN_MAX_SLOTS, 0, 3, SKEIN_FS_READ_FILE), -SKEIN_EINVAL);
+	expect("post", skeinrabbit_post(&q, 2, 0, 3, SKEIN_FS_READ_FILE), 0);
+	expect("answer, it waits", skeinrabbit_slot_answer(&q, 2, &r), -SKEIN_EAGAIN);
+	expect_report("answer, it waits", &r, 0, 0);
+	expect_served(t, &q, 2, 0, &r);
+	expect_report("answer, granted", &r, 0, 0);
+	expect("answer, granted: entries read", (int64_t)r.entries_read, 2);
+	expect("post over an answer", skeinrabbit_post(&q, 2, 0, 9, SKEIN_FS_READ_FILE), 0);
+	expect("post over an answer: it stays", (int64_t)q.answers[2 * SKEIN_ANSWER_CELLS + 3], 2);
+	expect("post over an answer: it waits", skeinrabbit_slot_answer(&q, 2, NULL), -SKEIN_EAGAIN);
+	expect_served(t, &q, 6, -SKEIN_EACCES, &r);
+	expect_report("answer, denied", &r, 1, SKEIN_FS_WRITE_FILE);
+	expect("answer, denied: entries read", (int64_t)r.entries_read, 3);
+	expect_served(t, &q, 2, -SKEIN_ENOENT, &r);
+	expect_report("answer, not live", &r, 0, 0);
+	expect("answer, empty", skeinrabbit_slot_answer(&q, 3, NULL), -SKEIN_EAGAIN);
+	expect("answer, slot 8", skeinrabbit_slot_answer(&q, SKEIN_MAX_SLOTS, &r), -SKEIN_EINVAL);
+}
+
+/* Tables and queues that are not sound. */
+static void damaged_queue(struct skein_tables *t)
+{
+	struct skein_queue q = SKEIN_FRESH_QUEUE;
+
+	expect("post", skeinrabbit_post(&q, 0, 0, 0, SKEIN_FS_READ_FILE), 0);
+	t->system[0] = SKEIN_MAX_LEVEL + 1;
+	expect_served(t, &q, 0, -SKEIN_EIO, NULL);
+	q.answers[0] = UINT64_MAX;
+	expect("answer, no error number", skeinrabbit_slot_answer(&q, 0, NULL), -SKEIN_EIO);
+	q.cursor = SKEIN_MAX_SLOTS;
+	expect("turn, cursor 8", skeinrabbit_turn(t, &q), -SKEIN_EIO);
+	expect("post, cursor 8", skeinrabbit_post(&q, SKEIN_MAX_SLOTS, 0, 0, SKEIN_FS_READ_FILE), -SKEIN_EIO);
+	q.cursor = 7;
+	q.states[5] = 3;
+	expect("turn, state 3", skeinrabbit_turn(t, &q), -SKEIN_EIO);
+	expect("post, state 3", skeinrabbit_post(&q, 0, 0, 0, SKEIN_FS_READ_FILE), -SKEIN_EIO);
+	q.states[5] = SKEIN_SLOT_EMPTY;
+	expect("turn, a part too short",
+	       skeinrabbit_answer(skein_turn(SKEIN_TABLE_ARGUMENTS(t), q.requests, 23, q.states, 8, q.answers, 32, &q.cursor)), -SKEIN_EIO);
+	expect("turn, none waits", skeinrabbit_turn(t, &q), SKEIN_IDLE);
+}
+
 /* The limits that the header names, on fresh tables. */
 static void limits(struct skein_tables *t)
 {
@@ -381,6 +443,8 @@ int main(void)
 	other_reports(t);
 	short_reports(t);
 	entries_read(t);
+	queue(t);
+	damaged_queue(t);
 	limits(t);
 	return differences == 0 ? 0 : 1;
 }

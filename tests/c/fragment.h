@@ -18,6 +18,7 @@ struct connection {
 };
 
 extern struct skein_tables tables, before;
+extern struct skein_queue queue;
 extern struct connection *connection, *connections;
 extern size_t client_count;
 extern const uint64_t *policies;

@@ -17,8 +17,10 @@ use Rattle.sound.specs.Call.{call}
 use Rattle.domain.specs.Layer.{layerChecks, layerRead, layerCode}
 use Rattle.codes.specs.Codes.{codeOf, number, reported, reportedAccess}
 use Rattle.names.specs.Names.{namesSound}
+use Rattle.queue.specs.declared.Served.{Served}
+use Rattle.queue.specs.Queue.{Queue, Posted, posted, Turned, turned, servedReply}
 use Rattle.named.specs.Named.{Named, NamedOutcome, namedOutcome, lift, liftCount}
-use Rattle.capi.specs.Codes.{Answers, Tells, TellsAccess, spanFrom}
+use Rattle.capi.specs.Codes.{Answers, Tells, TellsAccess, Posts, spanFrom}
 
 pub answers : (N : Named) (o : NamedOutcome) {a : Reply} {r : ℕ} → namedOutcome a N ≡ o → r ≡ number a → Answers r N o
 answers N o h k = (k ∙ ap (λ (x : NamedOutcome). number (x .reply)) h, ap (λ (x : NamedOutcome). x .left) h)
@@ -29,6 +31,14 @@ tells N o cells h k w = (answers N o h k, w ∙ ap (λ (x : NamedOutcome). repor
 pub tells-access : (N : Named) (o : NamedOutcome) (cells : List ℕ) {n m : ℕ} {cells′ : List ℕ} {a : Reply} {r : ℕ} → namedOutcome a N ≡ o → r ≡ number a → n ≡ m → cells′ ≡ reportedAccess cells a n
     → TellsAccess r N cells cells′ o m
 tells-access N o cells h k c w = (answers N o h k, w ∙ ap₂ (λ (x : NamedOutcome) (y : ℕ). reportedAccess cells (x .reply) y) h c)
+
+-- ---- the queue
+pub posts : (Q : Queue) (p : Posted) {a : Reply} {r : ℕ} → posted a Q ≡ p → r ≡ number a → Posts r Q p
+posts Q p h k = (k ∙ ap (λ (x : Posted). number (x .reply)) h, ap (λ (x : Posted). x .left) h)
+
+pub turns : (N : Named) (o : NamedOutcome) (Q : Queue) (p : Turned) {s : Served} {a : Reply} {r : ℕ} → turned s Q ≡ p → namedOutcome (servedReply s) N ≡ o → a ≡ servedReply s → r ≡ number a
+    → Answers r N o × (Q ≡ p .left)
+turns N o Q p h u i k = (answers N o u (k ∙ ap number i), ap (λ (x : Turned). x .left) h)
 
 -- a layer's rules: the code that comes beside the part
 layer-number : (T : Tables) (l : ℕ) → codeOf (layerCode T l) ≡ number (layerRead T l .reply)

@@ -9,6 +9,7 @@ use Rattle.tables.specs.Tables.{Tables, ruleWidth}
 use Rattle.tables.specs.Layers.{layerFirst}
 use Rattle.domain.specs.Layer.{layerCode}
 use Rattle.codes.specs.Codes.{number, reported, reportedAccess}
+use Rattle.queue.specs.Queue.{Queue, Posted}
 use Rattle.named.specs.Named.{Named, NamedOutcome}
 
 -- an exported call answers the reply's number r, and leaves the tables N
@@ -22,6 +23,10 @@ Tells r N cells cells′ o = Answers r N o × (cells′ ≡ reported cells (o .r
 -- access also reports how many entries' rules were read, n
 abbrev pub TellsAccess : ℕ → Named → List ℕ → List ℕ → NamedOutcome → ℕ → Type 0
 TellsAccess r N cells cells′ o n = Answers r N o × (cells′ ≡ reportedAccess cells (o .reply) n)
+
+-- a post answers the reply's number r, and leaves the queue Q
+abbrev pub Posts : ℕ → Queue → Posted → Type 0
+Posts r Q p = (r ≡ number (p .reply)) × (Q ≡ p .left)
 
 -- the first pool cell of a layer's rules; 0 with a refusal
 unfoldable pub spanFrom : Tables → ℕ → ℕ

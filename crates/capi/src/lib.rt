@@ -9,6 +9,7 @@ use codes::report_access;
 use codes::report_denial;
 use judge::rules::cells_of;
 use path::component_span;
+use queue::served_reply;
 use tables::rows::layer_first;
 ghost use mathlib.Core.Path.{_≡_};
 ghost use mathlib.Core.Bool.{cond};
@@ -17,6 +18,7 @@ ghost use lib.Dec.{eqb};
 ghost use lib.ListN.{length, set};
 ghost use Rattle.tables.specs.Tables.{ruleWidth};
 ghost use Rattle.tables.specs.Layers.{layerFirst};
+ghost use Rattle.queue.specs.Queue.{queue, post, turn};
 ghost use Rattle.ruleset.specs.Create.{created, closed};
 ghost use Rattle.rule.specs.Rule.{pathAdded, portAdded};
 ghost use Rattle.domain_restrict.specs.Restrict.{restrictCall};
@@ -30,9 +32,10 @@ ghost use Rattle.task.specs.declared.Scope.the-variants.{AbstractSocket, Signal
 ghost use Rattle.names.specs.Paths.{pathChecks, found, component};
 ghost use Rattle.named.specs.Named.{namedOutcome, namedCall, lift, liftCount, liftPart, freshenedNamed};
 ghost use Rattle.named.specs.Slices.{before, after};
+ghost use Rattle.named.specs.Queue.{answerOf, turnNamed};
 ghost use Rattle.named.specs.Tree.{createNamed, removeNamed, linkNamed, renameNamed, exchangeNamed};
 ghost use Rattle.path.specs.Span.{shownStart};
-ghost use Rattle.capi.specs.Codes.{Answers, Tells, TellsAccess, spanFrom};
+ghost use Rattle.capi.specs.Codes.{Answers, Tells, TellsAccess, Posts, spanFrom};
 
 fn span_from(layers: &[u64], cells: usize, l: u64, code: u64) -> usize
     ensures { λ r. ⌜ r ≡ cond (eqb code 0) (min (ruleWidth * layerFirst (now (layers .entry)) l) cells) 0 ⌝ }
@@ -658,4 +661,66 @@ pub extern "C" fn skein_component(path: &[u8], place: u64, cells: &mut [u64]) ->
     let span = component_span(path, place);
     report(cells, span.start, span.length);
     0
+}
+
+// Posts a request at a slot of the queue.
+#[no_mangle]
+pub extern "C" fn skein_post(
+    requests: &mut [u64],
+    states: &mut [u64],
+    answers: &[u64],
+    cursor: &mut u64,
+    slot: u64,
+    thread: u64,
+    entry: u64,
+    rights: u64,
+) -> u64
+    ensures { λ answer. ⌜ Posts answer (queue (now (requests .exit)) (now (states .exit)) (now (answers .entry)) (now (cursor .exit))) (post (queue (now (requests .entry)) (now (states .entry)) (now (answers .entry)) (now (cursor .entry))) slot thread entry rights) ⌝ }
+{
+    number(queue::post(
+        requests,
+        states,
+        answers,
+        *cursor,
+        slot,
+        thread,
+        entry,
+        rights,
+    ))
+}
+
+// Answers the next waiting slot of the queue: its number, or 8 if none waits.
+#[no_mangle]
+pub extern "C" fn skein_turn(
+    system: &[u64],
+    entries: &[u64],
+    rulesets: &[u64],
+    layers: &[u64],
+    pool: &[u64],
+    threads: &[u64],
+    names: &[u8],
+    requests: &[u64],
+    states: &mut [u64],
+    answers: &mut [u64],
+    cursor: &mut u64,
+) -> u64
+    ensures answer { λ r. ⌜ Answers r (after system entries rulesets layers pool threads names) (turnNamed (before system entries rulesets layers pool threads names) (queue (now (requests .entry)) (now (states .entry)) (now (answers .entry)) (now (cursor .entry)))) ⌝ }
+    ensures queue { λ r. ⌜ queue (now (requests .entry)) (now (states .exit)) (now (answers .exit)) (now (cursor .exit)) ≡ turn (answerOf (before system entries rulesets layers pool threads names)) (queue (now (requests .entry)) (now (states .entry)) (now (answers .entry)) (now (cursor .entry))) .left ⌝ }
+{
+    let round = queue_turn::turn(
+        system,
+        entries,
+        rulesets,
+        layers,
+        pool,
+        threads,
+        names,
+        requests,
+        states,
+        answers,
+        *cursor,
+    );
+    let said = round.said;
+    *cursor = round.cursor;
+    number(served_reply(said))
 }

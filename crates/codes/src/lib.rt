@@ -36,8 +36,19 @@ fn layer_cell(l: u64) -> u64
     0
 }
 
+// The error number of a reply, 0 for none.
+pub fn error_number(reply: Reply) -> u64
+    ensures { λ r. ⌜ r ≡ said reply .error ⌝ }
+{
+    match reply {
+        Reply::Done(_) => 0,
+        Reply::Refused(e) => e.0,
+        Reply::Denied(e, _, _) => e.0,
+    }
+}
+
 // The layer that a reply names, as the tables have it: its number + 1, or 0 for none.
-fn named_layer(reply: Reply) -> u64
+pub fn named_layer(reply: Reply) -> u64
     ensures { λ r. ⌜ r ≡ said reply .layer ⌝ }
 {
     match reply {
@@ -47,7 +58,8 @@ fn named_layer(reply: Reply) -> u64
     }
 }
 
-fn denied_rights(reply: Reply) -> u64
+// The rights that a reply says are denied.
+pub fn denied_rights(reply: Reply) -> u64
     ensures { λ r. ⌜ r ≡ said reply .rights ⌝ }
 {
     match reply {

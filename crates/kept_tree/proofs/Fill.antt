@@ -160,11 +160,11 @@ kept-created T t d k h = kept-call T (treeCreateChecks T t d k) (outcome (Done (
     (fill-files es c (counter sys) (S .tree) n k d c small free home some known grow numbered same (λ b. absurd (omega arith)))) h
 
 -- ---- link
-live-some : (es : List ℕ) (e : ℕ) → live es e ≡ true → kind es e ≡ 0 → ⊥
+pub live-some : (es : List ℕ) (e : ℕ) → live es e ≡ true → kind es e ≡ 0 → ⊥
 unfolding live
 live-some es e l = eqb-false (kind es e) 0 (not-true (eqb (kind es e) 0) l)
 
-no-dir : (es : List ℕ) (e : ℕ) → isDir es e ≡ false → kind es e ≡ directory → ⊥
+pub no-dir : (es : List ℕ) (e : ℕ) → isDir es e ≡ false → kind es e ≡ directory → ⊥
 unfolding isDir
 no-dir es e q = eqb-false (kind es e) directory q
 

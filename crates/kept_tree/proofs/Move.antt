@@ -83,10 +83,10 @@ module _ (T : Tables) (S : Sound T) (s d : ℕ) (source : live (T .entries) s �
       kept-clear (withEntries T new) (facts (withEntries T new) (kept-move T S s d source nz home outside)) y
       (live-same es new y (kind-move es s d y) ∙ there) ny still
 
-nonzero : (x : ℕ) → eqb x 0 ≡ false → 0 ≡ x → ⊥
+pub nonzero : (x : ℕ) → eqb x 0 ≡ false → 0 ≡ x → ⊥
 nonzero x h e = eqb-false x 0 h (sym e)
 
-not-above : (T : Tables) → Sound T → (s d : ℕ) → (0 ≡ s → ⊥) → isDir (T .entries) d ≡ true → isAbove (T .entries) s d ≡ false → Avoids (T .entries) s d
+pub not-above : (T : Tables) → Sound T → (s d : ℕ) → (0 ≡ s → ⊥) → isDir (T .entries) d ≡ true → isAbove (T .entries) s d ≡ false → Avoids (T .entries) s d
 not-above T S s d nz home h =
     let Z = S .tree in
     above-avoids (T .entries) (Z .root-top) s nz maxEntries d (Z .tops d (live-dir (T .entries) d home)) h

@@ -24,13 +24,16 @@ use Rattle.theorems.specs.Calls.{Call, outcomeOf, reply}
 use Rattle.theorems.proofs.Named as settled
 use Rattle.names.specs.Names.{maxName, namesSound}
 use Rattle.names.specs.Paths.{components, closing, refuse, arrived, stepTo, walk, pathChecks, found}
+use Rattle.queue.specs.Queue.{Queue, Turned, slots, servedReply}
+use Rattle.queue.proofs.Sound.{turn-cases}
 use Rattle.named.specs.Named.{Named, namedSound, NamedOutcome}
 use Rattle.named.specs.Tree.{createNamedChecks, createNamed, removeNamed, linkNamedChecks, linkNamed, renameNamedChecks, renameNamed, exchangeNamed}
-use Rattle.named.specs.Calls.{leavesTree, NamedCall, lifted, create, remove, link, rename, exchange, lookup, outcomeNamed, replyNamed, onCore}
-use Rattle.named.specs.Layer.{refusalsNamed, PassedOn, LayerNamed}
+use Rattle.named.specs.Queue.{answerOf, turnNamed}
+use Rattle.named.specs.Calls.{leavesTree, NamedCall, lifted, create, remove, link, rename, exchange, lookup, turn, outcomeNamed, replyNamed, onCore}
+use Rattle.named.specs.Layer.{faulty, refusalsNamed, PassedOn, LayerNamed}
 use Rattle.named.proofs.Made.{lift-unnamed, omits, omits-first, named-cases, NoLayer, way-number, way-told}
 use Rattle.named.proofs.Listed.{createWay, removeWay, linkWay, renameWay, exchangeWay}
-use Rattle.named.proofs.Translate.{OfTree, Seen, is-lifted, of-tree, is-lookup, seen, lifted-is, lifted-outcome}
+use Rattle.named.proofs.Translate.{OfTree, Seen, is-lifted, of-tree, is-lookup, is-turn, seen, lifted-is, lifted-outcome}
 
 -- ---- the replies of a lookup
 module _ (P : Reply → Type 0) (d : (e : ℕ) → P (Done e)) (o : P (refuse ENOTDIR)) (l : P (refuse ENAMETOOLONG)) (u : P (refuse ENOENT)) (es ns : List ℕ) (close : Bool) where
@@ -75,7 +78,7 @@ module _ (N : Named) where
       (λ s. passes b (O .comes-to) (ap replyOf (O .is-named) ∙ s ∙ ap (λ (o : Outcome). o .reply) (sym (O .is-core))))
       (λ P. no-layer (subst NoLayer (ap replyOf (sym (O .is-named))) P))
 
-  -- a reply of a lookup
+  -- a reply of a lookup or a turn
   abbrev Looked : Reply → Type 0
   Looked r = ((n : ℕ) × (r ≡ Done n)) ⊎ NoLayer r
 
@@ -88,18 +91,24 @@ module _ (N : Named) where
       (inr (no-layer-of ENOTDIR (λ z. omega arith) (λ z. omega arith))) (inr (no-layer-of ENAMETOOLONG (λ z. omega arith) (λ z. omega arith))) (inr (no-layer-of ENOENT (λ z. omega arith) (λ z. omega arith)))
       (N .core .entries) (N .names) p)
 
+  served : (Q : Queue) → Looked (replyNamed N (turn Q))
+  unfolding outcomeNamed turnNamed servedReply
+  served Q = turn-cases (answerOf N) Q (λ (p : Turned). Looked (servedReply (p .said)))
+      (λ s l. inl (_, refl)) (λ s l. inl (slots, refl)) (λ s. inr (no-layer-of EIO (λ z. omega arith) (λ z. omega arith)))
+
   told-seen : {c : NamedCall} → Seen N c → Told N c
   told-seen (is-lifted b q) = told-lifted b q
   told-seen {c} (of-tree b O) = told-tree c b O
   told-seen (is-lookup p) = either (looked p) (λ d. succeeds (d .0) (d .1)) no-layer
+  told-seen (is-turn Q) = either (served Q) (λ d. succeeds (d .0) (d .1)) no-layer
 
 -- ---- the number is that of the first refusal
 module _ (N : Named) where
   abbrev full : NamedCall → ℕ
-  full c = first (not (namedSound N) ⇒ EIO ∷ refusalsNamed N c)
+  full c = first (faulty N c ⇒ EIO ∷ refusalsNamed N c)
 
   number-lifted : (b : Call) (q : leavesTree b ≡ true) → errorOf (replyNamed N (lifted b q)) ≡ full (lifted b q)
-  unfolding first refusalsNamed namedSound
+  unfolding first faulty refusalsNamed namedSound
   number-lifted b q = split (namesSound (N .core .entries) (N .names))
       (λ h. ap (λ (o : NamedOutcome). errorOf (o .reply)) (lifted-outcome N b q h) ∙ settled.layer-named .number (N .core) b ∙ (rw (h, and-true (sound (N .core))) refl))
       (λ h. ap (λ (o : NamedOutcome). errorOf (o .reply)) (lifted-is N b q ∙ sym (lift-unnamed N (outcomeOf (N .core) b) h)) ∙ (rw (h, and-false (sound (N .core))) refl))
@@ -113,7 +122,7 @@ module _ (N : Named) where
       and-false false = refl
 
   number-lookup : (p : List ℕ) → errorOf (replyNamed N (lookup p)) ≡ full (lookup p)
-  unfolding outcomeNamed first refusalsNamed pathChecks
+  unfolding outcomeNamed first faulty refusalsNamed pathChecks
   number-lookup p =
       let es = N .core .entries in
       let last : List Check = true ⇒ errorOf (found es (N .names) p) ∷ [] in
@@ -122,8 +131,14 @@ module _ (N : Named) where
       (λ h z. rw h (join-stop (pathChecks p) last refl z))
       (λ h z. rw h (join-go (pathChecks p) last tt refl z refl))
 
+  number-turn : (Q : Queue) → errorOf (replyNamed N (turn Q)) ≡ full (turn Q)
+  unfolding outcomeNamed turnNamed servedReply first faulty refusalsNamed
+  number-turn Q =
+      let told : Bool → ℕ = λ b. first (not b ⇒ EIO ∷ []) in
+      turn-cases (answerOf N) Q (λ (p : Turned). errorOf (servedReply (p .said)) ≡ full (turn Q)) (λ s l. ap told (sym s)) (λ s l. ap told (sym s)) (λ s. ap told (sym s))
+
   number : (c : NamedCall) → errorOf (replyNamed N c) ≡ full c
-  unfolding outcomeNamed refusalsNamed createNamed createNamedChecks createWay removeNamed removeWay linkNamed linkNamedChecks linkWay renameNamed renameNamedChecks renameWay exchangeNamed exchangeWay
+  unfolding outcomeNamed faulty refusalsNamed createNamed createNamedChecks createWay removeNamed removeWay linkNamed linkNamedChecks linkWay renameNamed renameNamedChecks renameWay exchangeNamed exchangeWay
   number (lifted b q) = number-lifted b q
   number (create t d k n) = way-number N (createWay N t d k n)
   number (remove t e) = way-number N (removeWay N t e)
@@ -131,6 +146,7 @@ module _ (N : Named) where
   number (rename t s d n) = way-number N (renameWay N t s d n)
   number (exchange t s d x) = way-number N (exchangeWay N t s d x)
   number (lookup p) = number-lookup p
+  number (turn Q) = number-turn Q
 
 pub layer-named : LayerNamed
 layer-named = record {

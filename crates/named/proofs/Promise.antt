@@ -1,11 +1,12 @@
 -- What names promise, whatever calls were made. Assumes nothing.
 use mathlib.Core.Path.{_≡_, refl, sym, _∙_}
-use mathlib.Core.Bool.{true}
+use mathlib.Core.Bool.{true, false}
 use mathlib.Core.List.{List}
 use Prim.Native.Nat.{ℕ}
 use lib.ListN.{length}
 use borrow.Author.Tests.{eq-eqb, le-ltb}
 use Rattle.laws.specs.Refusals.{first}
+use Rattle.laws.proofs.Bools.{not-of-true}
 use Rattle.laws.proofs.Refusals.{none, miss, first-is}
 use Rattle.access.specs.declared.errno.Reply.the-variants.{Done}
 use Rattle.tables.specs.Tables.{parent, object, live}
@@ -21,7 +22,7 @@ use Rattle.names.proofs.Paths.{bearer-is}
 use Rattle.named.specs.Named.{Named, namedSound, namedOutcome, freshenedNamed}
 use Rattle.named.specs.Tree.{replacedBy, renameNamedChecks, renamedNames, renameNamed}
 use Rattle.named.specs.Calls.{NamedCall, create, link, rename, outcomeNamed, replyNamed, allNamed}
-use Rattle.named.specs.Layer.{refusalsNamed}
+use Rattle.named.specs.Layer.{faulty, refusalsNamed}
 use Rattle.named.specs.Promise.{NamesKept, NamesPromised}
 use Rattle.named.proofs.Orders.{create-taken, link-taken}
 use Rattle.named.proofs.Made.{core-sound, names-sound, wayMade, way-goes, made}
@@ -81,16 +82,16 @@ module _ (N : Named) (t s : ℕ) (h : namedSound N ≡ true) (l : live (N .core 
       sym (way-goes N W (m .is-sound) (m .passed) (m .none)) ∙ idle
 
 -- ---- a taken name
-refused-first : (N : Named) (c : NamedCall) {e : ℕ} → namedSound N ≡ true → first (refusalsNamed N c) ≡ e → errorOf (replyNamed N c) ≡ e
+refused-first : (N : Named) (c : NamedCall) {e : ℕ} → faulty N c ≡ false → first (refusalsNamed N c) ≡ e → errorOf (replyNamed N c) ≡ e
 unfolding first
 refused-first N c h q = layer-named .number N c ∙ (rw h q)
 
 pub names-promised : NamesPromised
-unfolding refusalsNamed
+unfolding refusalsNamed faulty
 names-promised = record {
   kept = λ N cs h. on-sound (allNamed N cs) (kept-all N cs h);
   fresh = λ N level cs r. on-sound (allNamed (freshenedNamed N level .left) cs) (kept-all (freshenedNamed N level .left) cs (freshened-sound N level r));
   own-name = own-name;
-  create-taken = λ N t d k n h z g q. refused-first N (create t d k n) h (create-taken N d n g q t k z);
-  link-taken = λ N t s d n h z g q. refused-first N (link t s d n) h (link-taken N d n g q t s z);
+  create-taken = λ N t d k n h z g q. refused-first N (create t d k n) (not-of-true (namedSound N) h) (create-taken N d n g q t k z);
+  link-taken = λ N t s d n h z g q. refused-first N (link t s d n) (not-of-true (namedSound N) h) (link-taken N d n g q t s z);
 }

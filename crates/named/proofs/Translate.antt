@@ -16,9 +16,11 @@ use Rattle.theorems.specs.Claim.{domainOf, Grown}
 use Rattle.theorems.specs.Claim as settled
 use Rattle.names.specs.Names.{namesSound}
 use Rattle.names.specs.Paths.{pathChecks}
+use Rattle.queue.specs.Queue.{Queue}
 use Rattle.named.specs.Named.{Named, withNames, NamedOutcome, namedOutcome, lift}
 use Rattle.named.specs.Tree.{createNamedChecks, createNamed, removeNamed, linkNamedChecks, linkNamed, renameNamedChecks, renameNamed, exchangeNamed}
-use Rattle.named.specs.Calls.{leavesTree, NamedCall, lifted, create, remove, link, rename, exchange, lookup, outcomeNamed, afterNamed, replyNamed, callerNamed, wouldFreeNamed, freesNamed, wouldEndNamed, endsNamed, onCore}
+use Rattle.named.specs.Queue.{turnNamed}
+use Rattle.named.specs.Calls.{leavesTree, NamedCall, lifted, create, remove, link, rename, exchange, lookup, turn, outcomeNamed, afterNamed, replyNamed, callerNamed, wouldFreeNamed, freesNamed, wouldEndNamed, endsNamed, onCore}
 use Rattle.named.specs.Claim.{ChangesTree}
 use Rattle.named.proofs.Made.{core-sound, lift-unnamed, lift-goes, named-cases, Way, wayNamed, wayCore, way-goes, core-goes, made, refused-left}
 use Rattle.named.proofs.Listed.{createWay, removeWay, linkWay, renameWay, exchangeWay}
@@ -37,6 +39,7 @@ pub data Seen (N : Named) : NamedCall → Type 0 where
   is-lifted : (c : Call) (q : leavesTree c ≡ true) → Seen N (lifted c q)
   of-tree : {c : NamedCall} (b : Call) → OfTree N c b → Seen N c
   is-lookup : (p : List ℕ) → Seen N (lookup p)
+  is-turn : (Q : Queue) → Seen N (turn Q)
 
 pub seen : (N : Named) (c : NamedCall) → Seen N c
 unfolding outcomeNamed outcomeOf onCore callerNamed caller wouldFreeNamed wouldFree wouldEnd
@@ -54,12 +57,14 @@ seen N (rename t s d n) = of-tree (Call.rename t s d _)
 seen N (exchange t s d x) = of-tree (Call.exchange t s d x)
     (record { way = exchangeWay N t s d x; is-named = refl; is-core = refl; comes-to = refl; whose = refl; frees-same = λ e. refl; ends-none = λ u. refl })
 seen N (lookup p) = is-lookup p
+seen N (turn Q) = is-turn Q
 
 -- ---- the translation: a lifted call where the names are sound, a call of the tree where it is not refused
 unfoldable pub turned : (N : Named) (c : NamedCall) → Seen N c → List Call
 turned N c (is-lifted b q) = cond (namesSound (N .core .entries) (N .names)) (b ∷ []) []
 turned N c (of-tree b O) = cond (isDone (replyNamed N c)) (b ∷ []) []
 turned N c (is-lookup p) = []
+turned N c (is-turn Q) = []
 
 unfoldable pub translate : Named → NamedCall → List Call
 translate N c = turned N c (seen N c)
@@ -131,12 +136,17 @@ pub lookup-left : (N : Named) (p : List ℕ) → afterNamed N (lookup p) ≡ N
 unfolding outcomeNamed
 lookup-left N p = named-cases N (pathChecks p) _ (λ o. o .left ≡ N) (λ h. refl) (λ h z. refl) (λ h z. refl)
 
+pub turn-left : (N : Named) (Q : Queue) → afterNamed N (turn Q) ≡ N
+unfolding outcomeNamed turnNamed
+turn-left N Q = refl
+
 -- ---- every call is followed by its translation
 follows-seen : {N : Named} {c : NamedCall} (v : Seen N c) → Follows N c (turned N c v)
 unfolding turned
 follows-seen {N} (is-lifted b q) = follows-lifted N b q
 follows-seen {N} {c} (of-tree b O) = follows-tree N c b O
 follows-seen {N} (is-lookup p) = follows-none N (lookup p) (ap (λ (M : Named). M .core) (lookup-left N p))
+follows-seen {N} (is-turn Q) = follows-none N (turn Q) (ap (λ (M : Named). M .core) (turn-left N Q))
 
 pub follows : (N : Named) (c : NamedCall) → Follows N c (translate N c)
 unfolding translate

@@ -1,11 +1,12 @@
--- On sound tables no call answers EIO. Assumes nothing.
-use mathlib.Core.Path.{_≡_, refl, sym, _∙_}
-use mathlib.Core.Bool.{true, not}
-use mathlib.Core.List.{List, _∷_}
+-- On sound tables no call answers EIO but a turn of a queue that is not sound. Assumes nothing.
+use mathlib.Core.Path.{_≡_, refl, sym, ap, _∙_}
+use mathlib.Core.Bool.{true, false, not}
+use mathlib.Core.List.{List}
 use Prim.Native.Nat.{ℕ}
 use native.Mathlib.Omega.{arith}
-use borrow.Author.Tests.{ne-eqb}
-use Rattle.laws.specs.Refusals.{_⇒_, first}
+use borrow.Author.Tests.{ne-eqb, not-true}
+use Rattle.laws.specs.Refusals.{first}
+use Rattle.laws.proofs.Bools.{split, clash}
 use Rattle.access.specs.Errno.{EIO}
 use Rattle.tables.specs.Tables.{Tables}
 use Rattle.tables.specs.Outcome.{errorOf}
@@ -27,10 +28,11 @@ use Rattle.theorems.specs.Calls.{Call, create-ruleset, close-ruleset, add-path-
 use Rattle.theorems.specs.Named.{refusalsOf}
 use Rattle.names.specs.Names.{nameChecks}
 use Rattle.names.specs.Paths.{pathChecks, found}
+use Rattle.queue.specs.Queue.{Queue, queueSound}
 use Rattle.named.specs.Named.{Named, namedSound}
 use Rattle.named.specs.Tree.{createTarget, newName, createBefore, createNamedChecks, linkTarget, linkBefore, linkNamedChecks, renameBefore, renameNamedChecks}
-use Rattle.named.specs.Calls.{NamedCall, lifted, create, remove, link, rename, exchange, lookup, replyNamed}
-use Rattle.named.specs.Layer.{refusalsNamed}
+use Rattle.named.specs.Calls.{NamedCall, lifted, create, remove, link, rename, exchange, lookup, turn, replyNamed}
+use Rattle.named.specs.Layer.{faulty, refusalsNamed}
 use Rattle.named.proofs.Made.{omits, omits-first}
 use Rattle.named.proofs.Layer.{found-replies, layer-named}
 
@@ -72,10 +74,27 @@ named-omits N (link t s d n) = refl
 named-omits N (rename t s d n) = refl
 named-omits N (exchange t s d x) = settled-omits (N .core) (Call.exchange t s d x)
 named-omits N (lookup p) = rw (ne-eqb (errorOf (found (N .core .entries) (N .names) p)) EIO (found-not (N .core .entries) (N .names) p)) refl
+named-omits N (turn Q) = refl
 
-pub not-unsound : (N : Named) (c : NamedCall) → namedSound N ≡ true → errorOf (replyNamed N c) ≡ EIO → ⊥
+-- an EIO is of what is faulty
+eio-faulty : (N : Named) (c : NamedCall) → errorOf (replyNamed N c) ≡ EIO → faulty N c ≡ true
 unfolding first
-not-unsound N c h z = omits-first EIO (refusalsNamed N c) (named-omits N c) (λ z. omega arith) (sym past ∙ sym (layer-named .number N c) ∙ z)
+eio-faulty N c z = split (faulty N c) (λ q. q)
+    (λ q. absurd (omits-first EIO (refusalsNamed N c) (named-omits N c) (λ z. omega arith) (rw q at (sym (layer-named .number N c) ∙ z))))
+
+pub not-unsound : (N : Named) (c : NamedCall) → namedSound N ≡ true → errorOf (replyNamed N c) ≡ EIO → (Q : Queue) × (c ≡ turn Q) × (queueSound Q ≡ false)
+unfolding faulty
+not-unsound N c h z = of-turn c (eio-faulty N c z)
   where
-    past : first (not (namedSound N) ⇒ EIO ∷ refusalsNamed N c) ≡ first (refusalsNamed N c)
-    past = rw h refl
+    sound-tables : {A : Type 0} → not (namedSound N) ≡ true → A
+    sound-tables q = clash (not (namedSound N)) q (ap not h)
+
+    of-turn : (c : NamedCall) → faulty N c ≡ true → (Q : Queue) × (c ≡ turn Q) × (queueSound Q ≡ false)
+    of-turn (lifted b l) q = sound-tables q
+    of-turn (create t d k n) q = sound-tables q
+    of-turn (remove t e) q = sound-tables q
+    of-turn (link t s d n) q = sound-tables q
+    of-turn (rename t s d n) q = sound-tables q
+    of-turn (exchange t s d x) q = sound-tables q
+    of-turn (lookup p) q = sound-tables q
+    of-turn (turn Q) q = (Q, refl, not-true (queueSound Q) q)

@@ -8,8 +8,10 @@ use Rattle.access.specs.declared.errno.Reply.{Reply}
 use Rattle.tree.specs.Entries.{replacing, sameObject}
 use Rattle.theorems.specs.Calls.{Call, create-ruleset, close-ruleset, add-path-rule, add-port-rule, restrict, layer-rules, clone, end-thread, set-no-new-privs, set-admin, access, port, task, outcomeOf, caller, isDone, wouldFree, wouldEnd}
 use Rattle.names.specs.Paths.{pathChecks, found}
+use Rattle.queue.specs.Queue.{Queue}
 use Rattle.named.specs.Named.{Named, NamedOutcome, namedOutcome, namedCall, lift}
 use Rattle.named.specs.Tree.{createNamed, removeNamed, linkNamed, replacedBy, renameNamed, exchangeNamed}
+use Rattle.named.specs.Queue.{turnNamed}
 
 -- the calls of document 01 that neither read nor write names: all but those that change the tree
 abbrev pub leavesTree : Call → Bool
@@ -47,6 +49,8 @@ pub data NamedCall : Type 0 where
   exchange : ℕ → ℕ → ℕ → ℕ → NamedCall
   -- path
   lookup : List ℕ → NamedCall
+  -- queue
+  turn : Queue → NamedCall
 
 -- what a call answers and leaves
 unfoldable pub outcomeNamed : Named → NamedCall → NamedOutcome
@@ -57,6 +61,7 @@ outcomeNamed N (link t s d n) = linkNamed N t s d n
 outcomeNamed N (rename t s d n) = renameNamed N t s d n
 outcomeNamed N (exchange t s d x) = exchangeNamed N t s d x
 outcomeNamed N (lookup p) = namedCall N (pathChecks p) (namedOutcome (found (N .core .entries) (N .names) p) N)
+outcomeNamed N (turn Q) = turnNamed N Q
 
 abbrev pub afterNamed : Named → NamedCall → Named
 afterNamed N c = outcomeNamed N c .left
@@ -78,6 +83,7 @@ callerNamed (link t s d n) = t
 callerNamed (rename t s d n) = t
 callerNamed (exchange t s d x) = t
 callerNamed (lookup p) = 0
+callerNamed (turn Q) = 0
 
 -- the entries that a call frees if it is not refused: "by a remove of it or a rename that replaced it"
 unfoldable pub wouldFreeNamed : Named → NamedCall → ℕ → Bool
@@ -88,6 +94,7 @@ wouldFreeNamed N (link t s d n) e = false
 wouldFreeNamed N (rename t s d n) e = replacing (replacedBy N d n) (λ y. not (sameObject (N .core .entries) s y) && eqb e y)
 wouldFreeNamed N (exchange t s d x) e = false
 wouldFreeNamed N (lookup p) e = false
+wouldFreeNamed N (turn Q) e = false
 
 unfoldable pub freesNamed : Named → NamedCall → ℕ → Bool
 freesNamed N c e = isDone (replyNamed N c) && wouldFreeNamed N c e
@@ -101,11 +108,12 @@ wouldEndNamed (link u s d n) t = false
 wouldEndNamed (rename u s d n) t = false
 wouldEndNamed (exchange u s d x) t = false
 wouldEndNamed (lookup p) t = false
+wouldEndNamed (turn Q) t = false
 
 unfoldable pub endsNamed : Named → NamedCall → ℕ → Bool
 endsNamed N c t = isDone (replyNamed N c) && wouldEndNamed c t
 
--- document 01's call on the six tables that a call comes to; a lookup comes to none
+-- document 01's call on the six tables that a call comes to; a lookup and a turn come to none
 unfoldable pub onCore : Named → NamedCall → List Call
 onCore N (lifted c q) = c ∷ []
 onCore N (create t d k n) = Call.create t d k ∷ []
@@ -114,3 +122,4 @@ onCore N (link t s d n) = Call.link t s d ∷ []
 onCore N (rename t s d n) = Call.rename t s d (replacedBy N d n) ∷ []
 onCore N (exchange t s d x) = Call.exchange t s d x ∷ []
 onCore N (lookup p) = []
+onCore N (turn Q) = []

@@ -1,6 +1,6 @@
 -- Document 02, W8, "All callers pass it on": which layer a refusal names, on tables with names.
 use mathlib.Core.Path.{_≡_}
-use mathlib.Core.Bool.{true, not}
+use mathlib.Core.Bool.{Bool, true, not}
 use mathlib.Core.List.{List, [], _∷_, _++_}
 use Prim.Native.Nat.{ℕ}
 use Rattle.laws.specs.Refusals.{Check, _⇒_, first}
@@ -14,9 +14,21 @@ use Rattle.tree.specs.Exchange.{exchangeChecks}
 use Rattle.theorems.specs.Calls.{Call, reply}
 use Rattle.theorems.specs.Named.{refusalsOf, ByVerdict}
 use Rattle.names.specs.Paths.{pathChecks, found}
+use Rattle.queue.specs.Queue.{queueSound}
 use Rattle.named.specs.Named.{Named, namedSound}
 use Rattle.named.specs.Tree.{createNamedChecks, linkNamedChecks, renameNamedChecks}
-use Rattle.named.specs.Calls.{NamedCall, lifted, create, remove, link, rename, exchange, lookup, replyNamed, onCore}
+use Rattle.named.specs.Calls.{NamedCall, lifted, create, remove, link, rename, exchange, lookup, turn, replyNamed, onCore}
+
+-- what is EIO before any other refusal: tables that are not sound; at a turn they are an answer, and a queue that is not sound is EIO
+unfoldable pub faulty : Named → NamedCall → Bool
+faulty N (lifted c q) = not (namedSound N)
+faulty N (create t d k n) = not (namedSound N)
+faulty N (remove t e) = not (namedSound N)
+faulty N (link t s d n) = not (namedSound N)
+faulty N (rename t s d n) = not (namedSound N)
+faulty N (exchange t s d x) = not (namedSound N)
+faulty N (lookup p) = not (namedSound N)
+faulty N (turn Q) = not (queueSound Q)
 
 -- the refusals of a call on sound tables, in their order; a lookup's components come after its first checks
 unfoldable pub refusalsNamed : Named → NamedCall → List Check
@@ -27,6 +39,7 @@ refusalsNamed N (link t s d n) = linkNamedChecks N t s d n
 refusalsNamed N (rename t s d n) = renameNamedChecks N t s d n
 refusalsNamed N (exchange t s d x) = exchangeChecks (N .core) t s d x
 refusalsNamed N (lookup p) = pathChecks p ++ (true ⇒ errorOf (found (N .core .entries) (N .names) p) ∷ [])
+refusalsNamed N (turn Q) = []
 
 -- document 01's call on the six tables gave this very reply, and names the layer as `ByVerdict` says
 pub record PassedOn (N : Named) (c : NamedCall) (e : Errno) (l : ℕ) (s : Rights) : Type 0 where
@@ -38,7 +51,7 @@ pub record PassedOn (N : Named) (c : NamedCall) (e : Errno) (l : ℕ) (s : Right
 -- on any tables, sound or not
 pub record LayerNamed : Type 0 where
   -- the error number is that of the first refusal
-  pub number : (N : Named) (c : NamedCall) → errorOf (replyNamed N c) ≡ first (not (namedSound N) ⇒ EIO ∷ refusalsNamed N c)
+  pub number : (N : Named) (c : NamedCall) → errorOf (replyNamed N c) ≡ first (faulty N c ⇒ EIO ∷ refusalsNamed N c)
   -- a layer is named as the call on the six tables names it
   pub denied : (N : Named) (c : NamedCall) (e : Errno) (l : ℕ) (s : Rights) → replyNamed N c ≡ Denied e l s → PassedOn N c e l s
   -- every other refusal names none

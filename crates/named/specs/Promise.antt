@@ -14,14 +14,15 @@ use Rattle.tables.specs.Outcome.{errorOf}
 use Rattle.theorems.specs.Calls.{isDone}
 use Rattle.names.specs.Names.{nameChecks, rowAt, nameAt, taken}
 use Rattle.names.specs.Paths.{maxPath, pathOf}
+use Rattle.queue.specs.Queue.{Queue, queueSound}
 use Rattle.named.specs.Named.{Named, namedSound, namedOutcome, freshenedNamed}
 use Rattle.named.specs.Tree.{createTarget, linkTarget}
-use Rattle.named.specs.Calls.{NamedCall, create, link, rename, lookup, outcomeNamed, replyNamed, allNamed}
+use Rattle.named.specs.Calls.{NamedCall, create, link, rename, lookup, turn, outcomeNamed, replyNamed, allNamed}
 
 pub record NamesKept (N : Named) : Type 0 where
   pub is-sound : namedSound N ≡ true
-  -- no call meets EIO
-  pub never-unsound : (c : NamedCall) → errorOf (replyNamed N c) ≡ EIO → ⊥
+  -- no call meets EIO but a turn of a queue that is not sound
+  pub never-unsound : (c : NamedCall) → errorOf (replyNamed N c) ≡ EIO → (Q : Queue) × (c ≡ turn Q) × (queueSound Q ≡ false)
   -- "every entry but the root a name of 1 to 48 bytes without slash or zero byte, not "." or ".."": it would pass the checks of a name
   pub fine : (e : ℕ) → live (N .core .entries) e ≡ true → (e ≡ 0 → ⊥) → first (nameChecks (nameAt (N .names) e)) ≡ 0
   -- a free row has none

@@ -280,7 +280,7 @@ module _ (es : List ℕ) (L : Layer) (m : Move) where
   needs-within = rw (← without-join (m .leave .0) (m .enter .0) REFER)
       (join-within _ _ (without (m .leave .0) REFER) (without (m .enter .0) REFER) (missing-within es L (m .source) (without (m .leave .0) REFER)) (missing-within es L (m .target) (without (m .enter .0) REFER)))
 
-  uncontained-within : (p1 p2 o rights : ℕ) → within (uncontained es L p1 p2 o rights) rights ≡ true
+  pub uncontained-within : (p1 p2 o rights : ℕ) → within (uncontained es L p1 p2 o rights) rights ≡ true
   unfolding uncontained
   uncontained-within p1 p2 o rights = has-within (uncontained es L p1 p2 o rights) rights (λ i h.
       let x = missing es L p1 rights in

@@ -1,7 +1,10 @@
 //! Calls as values, and whatever answers them.
 
 use crate::names::component;
+use crate::queue::cells::QueueCells;
+use crate::queue::{answered, Request};
 use crate::refusal::{returned, Answer};
+use crate::sound::check;
 use crate::state::Model;
 use crate::tables::Tables;
 
@@ -202,9 +205,20 @@ impl Reply {
     }
 }
 
-/// Something that answers calls on tables of any length and contents.
+/// Something that answers calls on tables of any length and contents, and keeps a queue as the model
+/// does unless it says otherwise.
 pub trait Broker {
     fn answer(&mut self, tables: &mut Tables, call: &Call) -> Reply;
+
+    /// Posts a request in a slot; answers as a call does.
+    fn post(&mut self, queue: &mut QueueCells, slot: u64, request: Request) -> u64 {
+        returned(queue.post(slot, request))
+    }
+
+    /// Takes a turn of the queue on tables; answers as a call does.
+    fn turn(&mut self, queue: &mut QueueCells, tables: &Tables) -> u64 {
+        returned(queue.turn(|request| answered(check(tables).ok().as_ref(), request).1))
+    }
 }
 
 impl Model {
@@ -219,7 +233,7 @@ impl Model {
     /// What a call that was answered so reports: where a layer's rules stand, as their first cell in the
     /// pool and their number of cells; or which layer refused, as its number + 1, and its set, and of an
     /// access how many entries' rules were read.
-    fn reported(&self, call: &Call, answer: Answer) -> [u64; 3] {
+    pub fn reported(&self, call: &Call, answer: Answer) -> [u64; 3] {
         if let Call::LayerRules { layer, .. } = *call {
             let (place, count) = self.layer_rules(layer).unwrap_or_default();
             return [3 * place as u64, 3 * count as u64, 0];

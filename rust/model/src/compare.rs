@@ -3,8 +3,11 @@
 use crate::attributes::{self, LONGEST};
 use crate::call::{Broker, Call, Reply};
 use crate::damage::{pokes, undo, Poke};
-use crate::generate::{call, every_call, Mix};
+use crate::generate::{access_request, call, every_call, Mix};
 use crate::odd::{random_cells, wrong_lengths, Odd};
+use crate::queue::cells::{QueueCells, QueuePart};
+use crate::queue::event::{self, Event};
+use crate::queue::SLOTS;
 use crate::reference::Reference;
 use crate::refusal::Answer;
 use crate::start::start;
@@ -24,9 +27,21 @@ pub enum Step {
         table: Table,
         length: usize,
     },
+    Queue(Event),
 }
 
-/// A list of steps from given sound tables.
+impl Step {
+    /// The name of what is called, if something is.
+    pub fn name(&self) -> Option<&'static str> {
+        match self {
+            Step::Call(call) => Some(call.name()),
+            Step::Queue(event) => event.name(),
+            Step::Damage(_) | Step::Resize { .. } => None,
+        }
+    }
+}
+
+/// A list of steps from given sound tables and a fresh queue.
 #[derive(Clone, PartialEq, Eq, Debug)]
 pub struct Case {
     pub start: Model,
@@ -42,6 +57,15 @@ pub struct CellDifference {
     pub model: u64,
 }
 
+/// A cell of the queue that the two sides left with different values.
+#[derive(Clone, Copy, PartialEq, Eq, Debug)]
+pub struct QueueDifference {
+    pub part: QueuePart,
+    pub cell: usize,
+    pub broker: u64,
+    pub model: u64,
+}
+
 /// Where the two sides differ first.
 #[derive(Clone, PartialEq, Eq, Debug)]
 pub struct Difference {
@@ -50,12 +74,14 @@ pub struct Difference {
     pub broker: Reply,
     pub model: Reply,
     pub cells: Vec<CellDifference>,
+    pub queue: Vec<QueueDifference>,
 }
 
-/// A broker over tables of its own, and the model.
+/// A broker over tables and a queue of its own, and the model.
 struct Pair<'a, B> {
     broker: &'a mut B,
     tables: Tables,
+    queue: QueueCells,
     reference: Reference,
     steps: usize,
 }
@@ -65,12 +91,14 @@ impl<B: Broker> Pair<'_, B> {
         Pair {
             broker,
             tables: encode(start),
+            queue: QueueCells::fresh(),
             reference: Reference::new(start),
             steps: 0,
         }
     }
 
-    /// Takes a step on both sides; answers the model's answer to a call, and how the sides differ.
+    /// Takes a step on both sides; answers the model's answer to a call, a post or a turn, and how the sides
+    /// differ.
     fn take(&mut self, step: &Step) -> (Option<Answer>, Option<Difference>) {
         self.steps += 1;
         match step {
@@ -88,6 +116,7 @@ impl<B: Broker> Pair<'_, B> {
                 self.tables.resize(*table, *length);
                 self.reference.resize(*table, *length);
             }
+            Step::Queue(event) => return self.queue_event(event),
         }
         (None, None)
     }
@@ -104,9 +133,50 @@ impl<B: Broker> Pair<'_, B> {
             broker,
             model,
             cells: cell_differences(&self.tables, self.reference.tables()),
+            queue: Vec::new(),
         };
         (answer, Some(difference))
     }
+
+    fn queue_event(&mut self, event: &Event) -> (Option<Answer>, Option<Difference>) {
+        let number = match *event {
+            Event::Post { slot, request } => self.broker.post(&mut self.queue, slot, request),
+            Event::Turn => self.broker.turn(&mut self.queue, &self.tables),
+            Event::Poke { .. } | Event::Resize { .. } => {
+                event.damage(&mut self.queue);
+                0
+            }
+        };
+        let answer = self.reference.queue_event(event);
+        let model = Reply::of(answer.unwrap_or(Ok(0)), Vec::new());
+        if number == model.number && self.queue == *self.reference.queue() {
+            return (answer, None);
+        }
+        let difference = Difference {
+            step: self.steps - 1,
+            broker: Reply {
+                number,
+                report: Vec::new(),
+            },
+            model,
+            cells: Vec::new(),
+            queue: queue_differences(&self.queue, self.reference.queue()),
+        };
+        (answer, Some(difference))
+    }
+}
+
+fn queue_differences(broker: &QueueCells, model: &QueueCells) -> Vec<QueueDifference> {
+    let parts = QueuePart::ALL.into_iter().flat_map(|part| {
+        let length = broker.length(part).min(model.length(part));
+        (0..length).map(move |cell| QueueDifference {
+            part,
+            cell,
+            broker: broker.cell(part, cell),
+            model: model.cell(part, cell),
+        })
+    });
+    parts.filter(|cell| cell.broker != cell.model).collect()
 }
 
 fn cell_differences(broker: &Tables, model: &Tables) -> Vec<CellDifference> {
@@ -135,7 +205,7 @@ pub fn sweep<B: Broker>(broker: &mut B, seed: u64, tally: &mut Tally) -> Option<
     let lengths =
         (0..=LAST_LEVEL).flat_map(|level| (0..=LONGEST).map(move |length| (level, length)));
     for (level, length) in lengths {
-        let mut session = Session::new(broker, Model::fresh(level), Mix::Every);
+        let mut session = Session::new(broker, Model::fresh(level), Mix::Every, 0);
         for (filling, call) in attributes::calls(level, length, &mut random) {
             tally.count_attribute(filling, level, length);
             if session.take(tally, Step::Call(call)).is_some() {
@@ -160,6 +230,7 @@ pub fn compare<B: Broker>(broker: &mut B, options: &Options, tally: &mut Tally) 
         .map(|seconds| Instant::now() + Duration::from_secs(seconds));
     let mut run = Run {
         random: Random::new(options.seed),
+        queue_random: Random::new(!options.seed),
         last_call: tally.calls.saturating_add(options.calls),
         tally,
         deadline,
@@ -167,7 +238,8 @@ pub fn compare<B: Broker>(broker: &mut B, options: &Options, tally: &mut Tally) 
     while !run.is_over() {
         let start = start(&mut run.random);
         let mix = run.random.pick(&[Mix::Every, Mix::Tree]);
-        let mut session = Session::new(broker, start, mix);
+        let queue = run.queue_random.pick(&[0, 5, 50]);
+        let mut session = Session::new(broker, start, mix, queue);
         if session.play(&mut run).is_some() {
             return Some(session.case);
         }
@@ -178,6 +250,8 @@ pub fn compare<B: Broker>(broker: &mut B, options: &Options, tally: &mut Tally) 
 /// The state of a comparison.
 struct Run<'a> {
     random: Random,
+    /// What happens to the queue is chosen apart, beside the same calls.
+    queue_random: Random,
     tally: &'a mut Tally,
     /// The calls counted when it ends.
     last_call: u64,
@@ -193,14 +267,17 @@ impl Run<'_> {
 /// One random case, as far as it has come.
 struct Session<'a, B> {
     mix: Mix,
+    /// The chance of something that happens to the queue before the next call, in a hundred.
+    queue: u64,
     pair: Pair<'a, B>,
     case: Case,
 }
 
 impl<B: Broker> Session<'_, B> {
-    fn new(broker: &mut B, start: Model, mix: Mix) -> Session<'_, B> {
+    fn new(broker: &mut B, start: Model, mix: Mix, queue: u64) -> Session<'_, B> {
         Session {
             mix,
+            queue,
             pair: Pair::new(broker, &start),
             case: Case {
                 start,
@@ -221,7 +298,7 @@ impl<B: Broker> Session<'_, B> {
             let difference = if run.random.chance(damage) {
                 self.damage(run)
             } else {
-                self.random_call(run)
+                self.random_step(run)
             };
             if difference.is_some() {
                 return difference;
@@ -249,12 +326,20 @@ impl<B: Broker> Session<'_, B> {
 
     fn take(&mut self, tally: &mut Tally, step: Step) -> Option<Difference> {
         let same_object = self.on_one_object(&step);
+        let turn = step == Step::Queue(Event::Turn);
+        let served = turn.then(|| self.pair.reference.next_answer()).flatten();
         let (answer, difference) = self.pair.take(&step);
-        if let (Step::Call(call), Some(answer)) = (&step, answer) {
-            tally.count(call, answer);
-            if same_object && answer.is_ok() {
-                tally.count_same_object(call);
+        match (&step, answer) {
+            (Step::Call(call), Some(answer)) => {
+                tally.count(call, answer);
+                if same_object && answer.is_ok() {
+                    tally.count_same_object(call);
+                }
             }
+            (Step::Queue(event), Some(answer)) => {
+                tally.count_event(event, answer, served);
+            }
+            _ => {}
         }
         self.case.steps.push(step);
         difference
@@ -290,7 +375,56 @@ impl<B: Broker> Session<'_, B> {
         self.take(run.tally, Step::Call(call))
     }
 
-    /// Damages cells; if the tables aren't sound then, a few calls follow and the cells are mended.
+    /// A call, and perhaps things that happen to the queue before it.
+    fn random_step(&mut self, run: &mut Run) -> Option<Difference> {
+        while run.queue_random.chance(self.queue) {
+            let difference = match run.queue_random.below(100) {
+                0..=5 => self.damage_queue(run),
+                6..=11 => {
+                    let events = event::other_queue(&mut run.queue_random);
+                    self.queue_events(run, events)
+                }
+                _ => self.queue_event(run),
+            };
+            if difference.is_some() {
+                return difference;
+            }
+        }
+        self.random_call(run)
+    }
+
+    /// A post or a turn.
+    fn queue_event(&mut self, run: &mut Run) -> Option<Difference> {
+        let model = self.pair.reference.model();
+        let model = model.unwrap_or(&self.case.start);
+        let event = event::event(model, &mut run.queue_random);
+        self.take(run.tally, Step::Queue(event))
+    }
+
+    fn queue_events(&mut self, run: &mut Run, events: Vec<Event>) -> Option<Difference> {
+        let mut steps = events.into_iter().map(Step::Queue);
+        steps.find_map(|step| self.take(run.tally, step))
+    }
+
+    /// Damages cells of the queue; posts and turns follow, and if it isn't sound the cells are mended.
+    fn damage_queue(&mut self, run: &mut Run) -> Option<Difference> {
+        let right = self.pair.reference.queue().clone();
+        let damage = event::damage(&mut run.queue_random);
+        self.queue_events(run, damage);
+        for _ in 0..run.queue_random.between(1, 4) {
+            if let Some(difference) = self.queue_event(run) {
+                return Some(difference);
+            }
+        }
+        let queue = self.pair.reference.queue();
+        if queue.decode().is_ok() {
+            return None;
+        }
+        let mended = event::undo(queue, &right);
+        self.queue_events(run, mended)
+    }
+
+    /// Damages cells; if the tables aren't sound then, a few steps follow and the cells are mended.
     fn damage(&mut self, run: &mut Run) -> Option<Difference> {
         let model = self.pair.reference.model().ok()?;
         let tables = self.pair.reference.tables();
@@ -301,7 +435,7 @@ impl<B: Broker> Session<'_, B> {
         run.tally.count_damage(broken);
         broken?;
         for _ in 0..run.random.between(1, 3) {
-            if let Some(difference) = self.random_call(run) {
+            if let Some(difference) = self.random_step(run) {
                 return Some(difference);
             }
         }
@@ -330,15 +464,21 @@ impl<B: Broker> Session<'_, B> {
         let level = run.random.between(0, LAST_LEVEL);
         difference
             .or_else(|| self.take(run.tally, Step::Call(Call::Fresh { level })))
-            .or_else(|| (0..5).find_map(|_| self.random_call(run)))
+            .or_else(|| (0..5).find_map(|_| self.random_step(run)))
     }
 
-    /// Makes every call once, with arguments for tables that show a model.
+    /// Posts a request, takes a turn and makes every call once, with arguments for tables that show a model.
     fn every_call(&mut self, run: &mut Run, model: &Model, odds: &[Odd]) -> Option<Difference> {
-        let calls = every_call(model, &mut run.random);
-        calls.into_iter().find_map(|call| {
-            run.tally.count_odd(odds, &call);
-            self.take(run.tally, Step::Call(call))
+        let post = Event::Post {
+            slot: run.queue_random.below(SLOTS as u64),
+            request: access_request(model, &mut run.queue_random),
+        };
+        let events = [post, Event::Turn].map(Step::Queue).into_iter();
+        let calls = every_call(model, &mut run.random).into_iter();
+        let mut steps = events.chain(calls.map(Step::Call));
+        steps.find_map(|step| {
+            run.tally.count_odd(odds, &step);
+            self.take(run.tally, step)
         })
     }
 }

@@ -3,6 +3,7 @@
 use crate::call::Call;
 use crate::names::Name;
 use crate::paths::{bad_name, new_name, path, place};
+use crate::queue::Request;
 use crate::rights::{Masks, Rights};
 use crate::rulesets::known_size;
 use crate::start::{masks, some_of};
@@ -26,6 +27,11 @@ pub fn call(model: &Model, mix: Mix, random: &mut Random) -> Call {
     };
     let (_, make) = SORTS[SORTS.partition_point(|(end, _)| *end <= sort)];
     make(&mut choose)
+}
+
+/// The arguments of a random access, for tables that show a model.
+pub fn access_request(model: &Model, random: &mut Random) -> Request {
+    Choose { model, random }.request()
 }
 
 /// A random call of every name, `fresh` the last.
@@ -241,17 +247,26 @@ impl Choose<'_> {
     }
 
     fn access(&mut self) -> Call {
+        let request = self.request();
+        Call::Access {
+            thread: request.thread,
+            entry: request.entry,
+            rights: request.rights,
+            report: self.report(),
+        }
+    }
+
+    fn request(&mut self) -> Request {
         let thread = self.thread();
         let entry = self.entry();
         let kind = self.model.entries.get(&entry).map(|entry| entry.kind);
         let sensible = kind.map_or(Rights::ALL, |kind| kind.rights());
         let one = self.one_of(sensible);
         let rights = self.rights(one, sensible);
-        Call::Access {
+        Request {
             thread,
             entry,
             rights,
-            report: self.report(),
         }
     }
 

@@ -3,7 +3,7 @@
 //!
 //! The model is [`state`] with the calls in [`rulesets`], [`threads`], [`judge`], [`scopes`], [`tree`]
 //! and [`names`], and what a refused verdict names in [`denial`]; [`tables`] and [`sound`] convert
-//! between it and cells. The comparison is [`compare`], fed by [`start`], [`generate`], [`paths`],
+//! between it and cells. Beside the tables stands the [`queue`]. The comparison is [`compare`], fed by [`start`], [`generate`], [`paths`],
 //! [`damage`], [`odd`] and [`attributes`], and by [`long_run`] with very many calls on the same tables; a
 //! difference is made short by [`shrink`] and printed by [`scenario`].
 
@@ -20,6 +20,7 @@ pub mod odd;
 pub mod paths;
 #[cfg(feature = "core")]
 pub mod proved;
+pub mod queue;
 pub mod reference;
 pub mod refusal;
 pub mod rights;

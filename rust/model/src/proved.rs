@@ -1,9 +1,11 @@
 //! The proved core as a broker, and beside the model.
 
 use crate::call::{Broker, Call, Reply};
+use crate::queue::cells::QueueCells;
+use crate::queue::Request;
 use crate::reference::Rereading;
 use crate::tables::Tables;
-use skeinrabbit_sys::Cells;
+use skeinrabbit_sys::{Cells, SharedCells};
 
 /// The proved core.
 pub struct Core;
@@ -13,6 +15,19 @@ impl Broker for Core {
         let mut report = call.unwritten_report();
         let number = core_answer(&mut cells(tables), call, &mut report);
         Reply { number, report }
+    }
+
+    fn post(&mut self, queue: &mut QueueCells, slot: u64, request: Request) -> u64 {
+        let Request {
+            thread,
+            entry,
+            rights,
+        } = request;
+        skeinrabbit_sys::post(&mut queue_cells(queue), slot, thread, entry, rights)
+    }
+
+    fn turn(&mut self, queue: &mut QueueCells, tables: &Tables) -> u64 {
+        skeinrabbit_sys::turn(shared_cells(tables), &mut queue_cells(queue))
     }
 }
 
@@ -40,6 +55,47 @@ impl Broker for Both {
             "core and model leave other cells: {call:?}"
         );
         core
+    }
+
+    fn post(&mut self, queue: &mut QueueCells, slot: u64, request: Request) -> u64 {
+        let mut by_model = queue.clone();
+        let model = Rereading.post(&mut by_model, slot, request);
+        let core = Core.post(queue, slot, request);
+        assert_eq!((core, &*queue), (model, &by_model), "{slot}: {request:?}");
+        core
+    }
+
+    fn turn(&mut self, queue: &mut QueueCells, tables: &Tables) -> u64 {
+        let mut by_model = queue.clone();
+        let model = Rereading.turn(&mut by_model, tables);
+        let core = Core.turn(queue, tables);
+        assert_eq!((core, &*queue), (model, &by_model));
+        core
+    }
+}
+
+fn queue_cells(queue: &mut QueueCells) -> skeinrabbit_sys::QueueCells<'_> {
+    let [requests, states, answers] = &mut queue.lists;
+    let cursor = &mut queue.cursor;
+    skeinrabbit_sys::QueueCells {
+        requests,
+        states,
+        answers,
+        cursor,
+    }
+}
+
+fn shared_cells(tables: &Tables) -> SharedCells<'_> {
+    let [system, entries, rulesets, layers, pool, threads] = &tables.cells;
+    let names = &tables.names;
+    SharedCells {
+        system,
+        entries,
+        rulesets,
+        layers,
+        pool,
+        threads,
+        names,
     }
 }
 

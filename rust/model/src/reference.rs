@@ -3,15 +3,19 @@
 use crate::call::{Broker, Call, Reply};
 use crate::compare::Step;
 use crate::damage::Poke;
+use crate::queue::answered;
+use crate::queue::cells::QueueCells;
+use crate::queue::event::Event;
 use crate::refusal::{Answer, Refusal};
 use crate::sound::{check, decode, Unsound};
 use crate::state::Model;
 use crate::tables::{encode, encode_into, Table, Tables};
 
-/// The model beside the tables that show it.
+/// The model beside the tables that show it, and a queue.
 pub struct Reference {
     tables: Tables,
     model: Result<Model, Unsound>,
+    queue: QueueCells,
 }
 
 impl Reference {
@@ -19,11 +23,16 @@ impl Reference {
         Reference {
             tables: encode(model),
             model: Ok(model.clone()),
+            queue: QueueCells::fresh(),
         }
     }
 
     pub fn tables(&self) -> &Tables {
         &self.tables
+    }
+
+    pub fn queue(&self) -> &QueueCells {
+        &self.queue
     }
 
     /// The model, or the clause of soundness that the tables break.
@@ -36,6 +45,7 @@ impl Reference {
             Step::Call(call) => drop(self.answer(call)),
             Step::Damage(pokes) => self.damage(pokes),
             Step::Resize { table, length } => self.resize(*table, *length),
+            Step::Queue(event) => drop(self.queue_event(event)),
         }
     }
 
@@ -49,6 +59,29 @@ impl Reference {
     pub fn resize(&mut self, table: Table, length: usize) {
         self.tables.resize(table, length);
         self.model = check(&self.tables);
+    }
+
+    /// What a post or a turn answers, if the event is one.
+    pub fn queue_event(&mut self, event: &Event) -> Option<Answer> {
+        match *event {
+            Event::Post { slot, request } => Some(self.queue.post(slot, request)),
+            Event::Turn => {
+                let model = self.model.as_ref().ok();
+                let turn = self.queue.turn(|request| answered(model, request).1);
+                Some(turn)
+            }
+            Event::Poke { .. } | Event::Resize { .. } => {
+                event.damage(&mut self.queue);
+                None
+            }
+        }
+    }
+
+    /// What a turn would answer the next waiting slot, if there is one.
+    pub fn next_answer(&self) -> Option<Answer> {
+        let queue = self.queue.decode().ok()?;
+        let request = queue.slots[queue.next()?].request;
+        Some(answered(self.model.as_ref().ok(), request).0)
     }
 
     /// Answers a call and writes every cell anew.
@@ -93,6 +126,7 @@ impl Broker for Rereading {
         let mut reference = Reference {
             model: check(tables),
             tables: std::mem::take(tables),
+            queue: QueueCells::fresh(),
         };
         let (answer, report) = reference.answer(call);
         *tables = reference.tables;

@@ -152,6 +152,15 @@ refusals! {
     SlashAfterNonDirectory ENOTDIR;
     ComponentTooLong ENAMETOOLONG;
     NoSuchName ENOENT;
+    /// The slot of a queue that was served last is none of the eight.
+    CursorPastEnd EIO;
+    /// A list of a queue is not of eight slots.
+    NotEightSlots EIO;
+    /// A slot is neither empty nor waiting nor answered.
+    UnknownState EIO;
+    NoSuchSlot EINVAL;
+    /// A request waits in the slot.
+    SlotWaiting EAGAIN;
 }
 
 /// The number a call succeeds with, or why it is refused.

@@ -3,8 +3,10 @@
 use crate::call::{Call, Reply, UNWRITTEN};
 use crate::compare::{Case, Difference, Step};
 use crate::damage::Poke;
+use crate::queue::event::Event;
+use crate::queue::{Request, IDLE};
 use crate::reference::Reference;
-use crate::refusal::{Answer, Errno};
+use crate::refusal::{Answer, Errno, Refusal};
 use crate::state::Model;
 use crate::tables::{encode, Table};
 
@@ -47,7 +49,50 @@ fn step_lines(step: &Step, reference: &mut Reference) -> Vec<String> {
                 table.name()
             )]
         }
+        Step::Queue(event) => vec![event_line(event, reference)],
     }
+}
+
+/// The line of something that happens to the queue of the model; a post or a turn with its answer, a turn
+/// with what it answered the slot, too.
+fn event_line(event: &Event, reference: &mut Reference) -> String {
+    let answer = reference.queue_event(event).unwrap_or(Ok(0));
+    let refused = |refusal: Refusal| format!("{:?}", refusal.errno());
+    match *event {
+        Event::Post { slot, request } => {
+            let Request {
+                thread,
+                entry,
+                rights,
+            } = request;
+            let answer = answer.map_or_else(refused, |number| number.to_string());
+            format!("post {slot} {thread} {entry} {rights} => {answer}")
+        }
+        Event::Turn => {
+            let answer = match answer {
+                Ok(IDLE) => "idle".to_string(),
+                Ok(slot) => served_words(reference, slot),
+                Err(refusal) => refused(refusal),
+            };
+            format!("turn => {answer}")
+        }
+        Event::Poke { part, cell, value } => format!("poke {} {cell} {value}", part.name()),
+        Event::Resize { list, length } => format!(
+            "# here the queue's {} are cut or filled with zeros to {length} cells",
+            list.name()
+        ),
+    }
+}
+
+/// A slot that was served, with its answer.
+fn served_words(reference: &Reference, slot: u64) -> String {
+    let [_, _, answers] = &reference.queue().lists;
+    let answer = &answers[4 * slot as usize..][..4];
+    let errno = Errno::ALL
+        .into_iter()
+        .find(|errno| *errno as u64 == answer[0]);
+    let errno = errno.map_or("0".to_string(), |errno| format!("{errno:?}"));
+    format!("{slot} answer={errno}{}", verdict_words(&answer[1..]))
 }
 
 /// Says how long a report is that a scenario can't ask for.
@@ -100,14 +145,18 @@ fn call_line(call: &Call, answer: Answer, report: &[u64]) -> String {
 
 /// What a verdict reports, as a scenario writes it.
 fn report_words(call: &Call, report: &[u64]) -> String {
+    match (call, report) {
+        (Call::LayerRules { .. }, _) => String::new(),
+        (Call::Component { .. }, [start, length, ..]) => format!(" start={start} length={length}"),
+        _ => verdict_words(report),
+    }
+}
+
+/// The layer that refused, its set, and of an access how many entries' rules were read.
+fn verdict_words(report: &[u64]) -> String {
     let [layer, rights, read @ ..] = report else {
         return String::new();
     };
-    match call {
-        Call::LayerRules { .. } => return String::new(),
-        Call::Component { .. } => return format!(" start={layer} length={rights}"),
-        _ => {}
-    }
     let layer = layer.checked_sub(1);
     let layer = layer.map_or("none".to_string(), |layer| layer.to_string());
     let read = read.iter().map(|count| format!(" entries_read={count}"));
@@ -173,6 +222,15 @@ fn difference_lines(difference: &Difference) -> Vec<String> {
             cell.cell,
             cell.cell / cell.table.width(),
             cell.cell % cell.table.width(),
+            cell.broker,
+            cell.model
+        ));
+    }
+    for cell in &difference.queue {
+        lines.push(format!(
+            "# cell {} {} of the queue: broker {}, model {}",
+            cell.part.name(),
+            cell.cell,
             cell.broker,
             cell.model
         ));

@@ -4,6 +4,8 @@ use crate::call::{Broker, Call};
 use crate::compare::{first_difference, Case, Difference, Step};
 use crate::damage::Poke;
 use crate::names::Name;
+use crate::queue::event::Event;
+use crate::queue::Request;
 use crate::reference::Reference;
 use crate::state::{Key, Model, Thread, ROOT};
 use crate::tables::Table;
@@ -61,7 +63,8 @@ impl<B: Broker> Shrinker<'_, B> {
         self.case.steps.truncate(self.difference.step + 1);
     }
 
-    /// From tables that aren't fresh, starts as late as possible: at the last sound tables.
+    /// From tables that aren't fresh, starts as late as possible: at the last sound tables, perhaps with what
+    /// happened to the queue before.
     fn start_at_difference(&mut self) {
         if self.case.start == Model::fresh(self.case.start.level) {
             return;
@@ -77,7 +80,16 @@ impl<B: Broker> Shrinker<'_, B> {
             }
             reference.take(step);
         }
-        self.differs(late);
+        let before = self.case.steps.len() - late.steps.len();
+        let before = self.case.steps[..before].iter();
+        let queue = before.filter(|step| matches!(step, Step::Queue(_)));
+        let with_queue = Case {
+            steps: queue.chain(&late.steps).cloned().collect(),
+            ..late.clone()
+        };
+        if !self.differs(late) {
+            self.differs(with_queue);
+        }
     }
 
     /// Drops items in ever smaller groups while the case still differs.
@@ -140,12 +152,13 @@ impl<B: Broker> Shrinker<'_, B> {
         let mut number = 0;
         while let Some(step) = self.case.steps.get(number) {
             let simpler = match step {
-                Step::Call(call) => simpler_calls(call),
+                Step::Call(call) => simpler_calls(call).into_iter().map(Step::Call).collect(),
+                Step::Queue(event) => simpler_events(event),
                 _ => Vec::new(),
             };
-            let taken = simpler.into_iter().any(|call| {
+            let taken = simpler.into_iter().any(|step| {
                 let mut candidate = self.case.clone();
-                candidate.steps[number] = Step::Call(call);
+                candidate.steps[number] = step;
                 self.differs(candidate)
             });
             better |= taken;
@@ -206,15 +219,36 @@ fn all_pokes(case: &Case) -> Vec<(usize, Poke)> {
     pokes.collect()
 }
 
+/// Smaller numbers than this one.
+fn smaller(number: u64) -> impl Iterator<Item = u64> {
+    let steps = [number, number / 2, number / 4, number / 16, number / 256, 1];
+    let smaller = steps
+        .into_iter()
+        .filter_map(move |step| number.checked_sub(step));
+    smaller.filter(move |smaller| *smaller != number)
+}
+
+/// Posts with one argument made smaller.
+fn simpler_events(event: &Event) -> Vec<Step> {
+    let Event::Post { slot, request } = *event else {
+        return Vec::new();
+    };
+    let post = |slot, request| Step::Queue(Event::Post { slot, request });
+    let slots = smaller(slot).map(|slot| post(slot, request));
+    let requests = smaller(request.thread)
+        .map(|thread| Request { thread, ..request })
+        .chain(smaller(request.entry).map(|entry| Request { entry, ..request }))
+        .chain(smaller(request.rights).map(|rights| Request { rights, ..request }));
+    slots
+        .chain(requests.map(|request| post(slot, request)))
+        .collect()
+}
+
 /// Calls with one argument made smaller.
 fn simpler_calls(call: &Call) -> Vec<Call> {
     let mut simpler = Vec::new();
     for (at, number) in call.numbers().into_iter().enumerate() {
-        let steps = [number, number / 2, number / 4, number / 16, number / 256, 1];
-        for smaller in steps
-            .into_iter()
-            .filter_map(|step| number.checked_sub(step))
-        {
+        for smaller in smaller(number) {
             let mut candidate = call.clone();
             *candidate.numbers_mut()[at] = smaller;
             simpler.push(candidate);

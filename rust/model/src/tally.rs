@@ -2,7 +2,10 @@
 
 use crate::attributes::{Filling, LONGEST};
 use crate::call::Call;
+use crate::compare::Step;
 use crate::odd::Odd;
+use crate::queue::event::Event;
+use crate::queue::IDLE;
 use crate::refusal::{Answer, Refusal};
 use crate::sound::Unsound;
 use crate::state::LAST_LEVEL;
@@ -12,7 +15,7 @@ use std::fmt;
 use Refusal::*;
 
 /// The refusals of each call, after the one for tables that aren't sound.
-const REFUSALS: [(&str, &[Refusal]); 22] = [
+const REFUSALS: [(&str, &[Refusal]); 24] = [
     ("fresh", &[WrongLength, UnknownLevel]),
     (
         "create_ruleset",
@@ -197,10 +200,24 @@ const REFUSALS: [(&str, &[Refusal]); 22] = [
         ],
     ),
     ("component", &[]),
+    (
+        "post",
+        &[
+            CursorPastEnd,
+            NotEightSlots,
+            UnknownState,
+            NoSuchSlot,
+            SlotWaiting,
+        ],
+    ),
+    ("turn", &[CursorPastEnd, NotEightSlots, UnknownState]),
 ];
 
 /// The calls that tables which aren't sound don't refuse so.
-const WITHOUT_SOUNDNESS: [&str; 2] = ["fresh", "component"];
+const WITHOUT_SOUNDNESS: [&str; 4] = ["fresh", "component", "post", "turn"];
+
+/// The names of posts and turns.
+const EVENTS: [&str; 2] = ["post", "turn"];
 
 /// The lengths of reports, in cells, that are to be met with every answer that says something.
 const REPORTS: [u64; 5] = [0, 1, 2, 3, 5];
@@ -216,6 +233,10 @@ pub struct Tally {
     answers: BTreeMap<(&'static str, Option<Refusal>), u64>,
     /// Successes of a rename or exchange of one object with itself.
     same_object: BTreeMap<&'static str, u64>,
+    /// What turns answered waiting slots.
+    served: BTreeMap<Option<Refusal>, u64>,
+    /// Turns where no slot waited.
+    idle: u64,
     /// Calls with a report by its length.
     reports: BTreeMap<Report, u64>,
     damages: BTreeMap<Unsound, u64>,
@@ -237,10 +258,26 @@ impl Tally {
         }
     }
 
-    /// Counts a call on odd tables.
-    pub fn count_odd(&mut self, odds: &[Odd], call: &Call) {
+    /// Counts a post or a turn, and what it answered the slot that it served.
+    pub fn count_event(&mut self, event: &Event, answer: Answer, served: Option<Answer>) {
+        let Some(name) = event.name() else {
+            return;
+        };
+        self.calls += 1;
+        *self.answers.entry((name, answer.err())).or_default() += 1;
+        if let Some(served) = served {
+            *self.served.entry(served.err()).or_default() += 1;
+        }
+        self.idle += u64::from(answer == Ok(IDLE));
+    }
+
+    /// Counts a step on odd tables.
+    pub fn count_odd(&mut self, odds: &[Odd], step: &Step) {
+        let Some(name) = step.name() else {
+            return;
+        };
         for odd in odds {
-            *self.odds.entry((*odd, call.name())).or_default() += 1;
+            *self.odds.entry((*odd, name)).or_default() += 1;
         }
     }
 
@@ -280,8 +317,12 @@ impl Tally {
         let unbroken = clauses.filter(|clause| !self.damages.contains_key(clause));
         let reports = reports().filter(|report| !self.reports.contains_key(report));
         let odds = odds().filter(|odd| !self.odds.contains_key(odd));
+        let served = served().filter(|answer| !self.served.contains_key(answer));
+        let idle = (self.idle == 0).then(|| "a turn where no slot waits".to_string());
         let lines = refusals.map(|(call, refusal)| format!("{call} {}", refusal_text(refusal)));
         lines
+            .chain(served.map(|answer| format!("turn that serves, {}", answer_text(answer))))
+            .chain(idle)
             .chain(unbroken.map(|clause| format!("damage {clause:?}")))
             .chain(reports.map(|report| report_text(&report)))
             .chain(odds.map(|(odd, call)| format!("{call} on {odd:?}")))
@@ -337,21 +378,37 @@ fn reports() -> impl Iterator<Item = Report> {
 fn odds() -> impl Iterator<Item = (Odd, &'static str)> {
     Odd::ALL
         .into_iter()
-        .flat_map(|odd| Call::NAMES.iter().map(move |call| (odd, *call)))
+        .flat_map(|odd| names().map(move |call| (odd, call)))
+}
+
+/// The names of all calls, of posts and of turns.
+fn names() -> impl Iterator<Item = &'static str> {
+    Call::NAMES.iter().copied().chain(EVENTS)
+}
+
+/// What a turn may answer the slot that it serves: what an access answers.
+fn served() -> impl Iterator<Item = Option<Refusal>> {
+    let access = refusals().filter(|(call, _)| *call == "access");
+    access.map(|(_, refusal)| Some(refusal)).chain([None])
 }
 
 fn refusal_text(refusal: Refusal) -> String {
     format!("{:?} {refusal:?}", refusal.errno())
 }
 
+fn answer_text(answer: Option<Refusal>) -> String {
+    answer.map_or("success".to_string(), refusal_text)
+}
+
 fn report_text((call, length, refusal): &Report) -> String {
-    let answer = refusal.map_or("success".to_string(), refusal_text);
+    let answer = answer_text(*refusal);
     format!("{call} with a report of {length} cells, {answer}")
 }
 
 impl fmt::Display for Tally {
     fn fmt(&self, f: &mut fmt::Formatter) -> fmt::Result {
         self.write_answers(f)?;
+        self.write_served(f)?;
         self.write_reports(f)?;
         writeln!(
             f,
@@ -376,17 +433,26 @@ impl fmt::Display for Tally {
 
 impl Tally {
     fn write_answers(&self, f: &mut fmt::Formatter) -> fmt::Result {
-        for call in Call::NAMES {
+        for call in names() {
             writeln!(f, "{call}: {} succeeded", self.of(call, None))?;
             if let Some(count) = self.same_object.get(call) {
                 writeln!(f, "    of these on one object {count}")?;
             }
-            let refused = self.answers.iter().filter(|((name, _), _)| name == call);
+            let refused = self.answers.iter().filter(|((name, _), _)| *name == call);
             for ((_, refusal), count) in refused {
                 if let Some(refusal) = refusal {
                     writeln!(f, "    {} {count}", refusal_text(*refusal))?;
                 }
             }
+        }
+        Ok(())
+    }
+
+    fn write_served(&self, f: &mut fmt::Formatter) -> fmt::Result {
+        writeln!(f, "turns where no slot waited: {}", self.idle)?;
+        writeln!(f, "answers that turns gave to slots:")?;
+        for (answer, count) in &self.served {
+            writeln!(f, "    {} {count}", answer_text(*answer))?;
         }
         Ok(())
     }

@@ -6,8 +6,11 @@ use model::denial::Denial;
 use model::judge::Move;
 use model::long_run::long_run;
 use model::names::component;
+use model::queue::cells::{QueueCells, QueuePart};
+use model::queue::event::Event;
+use model::queue::{answered, Queue, Request, SlotAnswer, State, IDLE, SLOTS};
 use model::reference::{Reference, Rereading};
-use model::refusal::{Answer, Errno, Refusal};
+use model::refusal::{returned, Answer, Errno, Refusal};
 use model::rights::{Masks, Rights};
 use model::scenario::scenario;
 use model::shrink::shrink;
@@ -1630,6 +1633,390 @@ fn the_needs_of_a_replaced_entry_are_found() {
     found_answering(rule, [0, Errno::EACCES.returned()]);
 }
 
+/// What the model answers a request on tables.
+fn answered_by(tables: &Tables, request: Request) -> SlotAnswer {
+    answered(check(tables).ok().as_ref(), request).1
+}
+
+/// Posts otherwise than the model.
+struct Posting<F>(F);
+
+impl<F: Fn(&mut QueueCells, u64, Request) -> u64> Broker for Posting<F> {
+    fn answer(&mut self, tables: &mut Tables, call: &Call) -> Reply {
+        Rereading.answer(tables, call)
+    }
+
+    fn post(&mut self, queue: &mut QueueCells, slot: u64, request: Request) -> u64 {
+        (self.0)(queue, slot, request)
+    }
+}
+
+/// Takes turns otherwise than the model.
+struct Turning<F>(F);
+
+impl<F: Fn(&mut QueueCells, &Tables) -> u64> Broker for Turning<F> {
+    fn answer(&mut self, tables: &mut Tables, call: &Call) -> Reply {
+        Rereading.answer(tables, call)
+    }
+
+    fn turn(&mut self, queue: &mut QueueCells, tables: &Tables) -> u64 {
+        (self.0)(queue, tables)
+    }
+}
+
+/// A case of at most so many steps, with what the last one must be answered and is, and its scenario.
+fn found_in_queue<B: Broker>(broker: &mut B, steps: usize) -> (Case, Difference, String) {
+    let (case, difference) = found(broker);
+    let text = scenario(&case, &difference);
+    assert!(case.steps.len() <= steps, "{text}");
+    let last = case.steps.last();
+    assert!(matches!(last, Some(Step::Queue(_))), "{text}");
+    (case, difference, text)
+}
+
+/// A wrong post: the sides answer alike, and so many cells of the queue differ, all of one part.
+fn found_post(fault: impl Fn(&mut QueueCells, u64, Request) -> u64, part: QueuePart, steps: usize) {
+    let (_, difference, text) = found_in_queue(&mut Posting(fault), steps);
+    assert_eq!(difference.broker, difference.model, "{text}");
+    assert!(
+        difference.queue.iter().all(|cell| cell.part == part),
+        "{text}"
+    );
+}
+
+#[test]
+fn posts_that_write_more_or_less_are_found() {
+    // The old answer is cleared.
+    let cleared = |queue: &mut QueueCells, slot: u64, request: Request| {
+        let answer = queue.post(slot, request);
+        if answer.is_ok() {
+            queue.lists[2][4 * slot as usize..][..4].fill(0);
+        }
+        returned(answer)
+    };
+    found_post(cleared, QueuePart::Answers, 3);
+    let moving = |queue: &mut QueueCells, slot: u64, request: Request| {
+        let answer = queue.post(slot, request);
+        if answer.is_ok() {
+            queue.cursor = (slot + 7) % 8;
+        }
+        returned(answer)
+    };
+    found_post(moving, QueuePart::Cursor, 1);
+    // Over an answered slot the request stays.
+    let keeping = |queue: &mut QueueCells, slot: u64, request: Request| {
+        let before = queue.clone();
+        let answer = queue.post(slot, request);
+        if answer.is_ok() && before.lists[1][slot as usize] == State::Answered as u64 {
+            queue.lists[0].clone_from(&before.lists[0]);
+        }
+        returned(answer)
+    };
+    found_post(keeping, QueuePart::Requests, 3);
+}
+
+/// A wrong answer to a post, where the model answers with this number.
+fn found_refusal_of_post(fault: fn(&Queue, u64) -> Option<u64>, numbers: [u64; 2]) {
+    let fault = |queue: &mut QueueCells, slot: u64, request: Request| {
+        let kept = queue.decode().unwrap_or_else(|_| Queue::fresh());
+        match fault(&kept, slot) {
+            Some(number) => number,
+            None => returned(queue.post(slot, request)),
+        }
+    };
+    let (_, difference, text) = found_in_queue(&mut Posting(fault), 4);
+    let answered = [difference.broker.number, difference.model.number];
+    assert_eq!(answered, numbers, "{text}");
+}
+
+#[test]
+fn refusals_of_posts_in_another_order_are_found() {
+    let (eio, eagain) = (Errno::EIO.returned(), Errno::EAGAIN.returned());
+    // The slot's number before the queue's soundness.
+    found_refusal_of_post(
+        |_, slot| (slot > 7).then_some(Errno::EINVAL.returned()),
+        [EINVAL, eio],
+    );
+    // An answer that nobody read is no reason to refuse.
+    let unread = |queue: &Queue, slot: u64| {
+        let slot = queue.slots.get(slot as usize)?;
+        let refused = Errno::EAGAIN.returned();
+        (slot.state == State::Answered).then_some(refused)
+    };
+    found_refusal_of_post(unread, [eagain, 0]);
+    // Nor is another slot that waits.
+    let any = |queue: &Queue, slot: u64| {
+        let mut slots = queue.slots.iter();
+        let waits = slot < 8 && slots.any(|slot| slot.state == State::Waiting);
+        waits.then_some(Errno::EAGAIN.returned())
+    };
+    found_refusal_of_post(any, [eagain, 0]);
+    // The slot of a number's lowest bits.
+    let bits = |queue: &mut QueueCells, slot: u64, request: Request| {
+        returned(queue.post(slot % 8, request))
+    };
+    let (_, difference, text) = found_in_queue(&mut Posting(bits), 1);
+    assert_eq!(difference.model.number, EINVAL, "{text}");
+}
+
+/// Waits before it is answered, though the queue isn't sound.
+#[test]
+fn a_waiting_slot_of_a_damaged_queue_is_found() {
+    let fault = |queue: &mut QueueCells, slot: u64, request: Request| {
+        let waits = queue.lists[1].get(slot as usize) == Some(&(State::Waiting as u64));
+        if waits {
+            return Errno::EAGAIN.returned();
+        }
+        returned(queue.post(slot, request))
+    };
+    let (_, difference, text) = found_in_queue(&mut Posting(fault), 3);
+    assert_eq!(difference.model.number, Errno::EIO.returned(), "{text}");
+}
+
+/// Serves the slot that a search finds among the waiting ones, and moves the cursor as it says.
+fn served_by(
+    queue: &mut QueueCells,
+    tables: &Tables,
+    search: impl Fn(&Queue) -> (Option<usize>, usize),
+) -> u64 {
+    let Ok(mut state) = queue.decode() else {
+        return Errno::EIO.returned();
+    };
+    let (found, last) = search(&state);
+    state.last = last;
+    if let Some(number) = found {
+        let slot = &mut state.slots[number];
+        slot.answer = answered_by(tables, slot.request);
+        slot.state = State::Answered;
+    }
+    *queue = QueueCells::of(&state);
+    found.map_or(IDLE, |slot| slot as u64)
+}
+
+/// A wrong search of the next slot: the cases are short and the queue is sound.
+fn found_search(
+    search: fn(&Queue) -> (Option<usize>, usize),
+    steps: usize,
+) -> (Difference, String) {
+    let fault = |queue: &mut QueueCells, tables: &Tables| served_by(queue, tables, search);
+    let (_, difference, text) = found_in_queue(&mut Turning(fault), steps);
+    assert!(difference.model.number <= IDLE, "{text}");
+    (difference, text)
+}
+
+/// The first waiting slot from one on, going round.
+fn waiting_from(queue: &Queue, first: usize) -> Option<usize> {
+    let round = (first..first + SLOTS).map(|number| number % SLOTS);
+    let mut waiting = round.filter(|number| queue.slots[*number].state == State::Waiting);
+    waiting.next()
+}
+
+#[test]
+fn wrong_searches_of_the_next_slot_are_found() {
+    // From the slot that was served last, itself.
+    let (difference, text) = found_search(
+        |queue| {
+            let found = waiting_from(queue, queue.last);
+            (found, found.unwrap_or(queue.last))
+        },
+        5,
+    );
+    assert_ne!(difference.broker.number, difference.model.number, "{text}");
+    // Always the lowest.
+    let (difference, text) = found_search(
+        |queue| {
+            let found = waiting_from(queue, 0);
+            (found, found.unwrap_or(queue.last))
+        },
+        5,
+    );
+    assert!(difference.broker.number < difference.model.number, "{text}");
+    // Not the last one served, though it alone waits.
+    let (difference, text) = found_search(
+        |queue| {
+            let found = waiting_from(queue, (queue.last + 1) % SLOTS);
+            let found = found.filter(|slot| *slot != queue.last);
+            (found, found.unwrap_or(queue.last))
+        },
+        4,
+    );
+    assert_eq!(difference.broker.number, IDLE, "{text}");
+    // Without going round.
+    let (difference, text) = found_search(
+        |queue| {
+            let found = waiting_from(queue, (queue.last + 1) % SLOTS);
+            let found = found.filter(|slot| *slot > queue.last || queue.last == 7);
+            (found, found.unwrap_or(queue.last))
+        },
+        4,
+    );
+    assert_eq!(difference.broker.number, IDLE, "{text}");
+}
+
+#[test]
+fn a_cursor_that_stays_or_moves_otherwise_is_found() {
+    let moved: [fn(&Queue, Option<usize>) -> usize; 3] = [
+        |queue, _| queue.last,
+        |queue, _| (queue.last + 1) % SLOTS,
+        |_, found| found.unwrap_or(SLOTS - 1),
+    ];
+    for moved in moved {
+        let fault = |queue: &mut QueueCells, tables: &Tables| {
+            served_by(queue, tables, |queue| {
+                let found = queue.next();
+                (found, moved(queue, found))
+            })
+        };
+        let (_, difference, text) = found_in_queue(&mut Turning(fault), 3);
+        assert_eq!(difference.broker, difference.model, "{text}");
+        assert_eq!(difference.queue.len(), 1, "{text}");
+        assert_eq!(difference.queue[0].part, QueuePart::Cursor, "{text}");
+    }
+}
+
+#[test]
+fn unsound_tables_that_a_turn_refuses_are_found() {
+    let fault = |queue: &mut QueueCells, tables: &Tables| {
+        if check(tables).is_err() {
+            return Errno::EIO.returned();
+        }
+        returned(queue.turn(|request| answered_by(tables, request)))
+    };
+    let (case, difference, text) = found_in_queue(&mut Turning(fault), 3);
+    assert_eq!(case.steps.last(), Some(&Step::Queue(Event::Turn)), "{text}");
+    assert_eq!(difference.broker.number, Errno::EIO.returned(), "{text}");
+    assert!(difference.model.number <= IDLE, "{text}");
+}
+
+/// A wrong answer of a turn to a slot, of which some cells differ.
+fn found_answer(fault: fn(&Tables, Request) -> SlotAnswer, steps: usize) {
+    let fault = |queue: &mut QueueCells, tables: &Tables| {
+        returned(queue.turn(|request| fault(tables, request)))
+    };
+    let (_, difference, text) = found_in_queue(&mut Turning(fault), steps);
+    assert_eq!(difference.broker, difference.model, "{text}");
+    assert!(
+        difference
+            .queue
+            .iter()
+            .all(|cell| cell.part == QueuePart::Answers),
+        "{text}"
+    );
+}
+
+#[test]
+fn wrong_answers_to_slots_are_found() {
+    // 2^64 minus the error number, the layer's own number, no count, no report at all.
+    let faults: [fn(SlotAnswer) -> SlotAnswer; 4] = [
+        |[number, layer, rights, read]| [number.wrapping_neg(), layer, rights, read],
+        |[number, layer, rights, read]| [number, layer.saturating_sub(1), rights, read],
+        |[number, layer, rights, _]| [number, layer, rights, 0],
+        |[number, ..]| [number, 0, 0, 0],
+    ];
+    for fault in faults {
+        let fault = |queue: &mut QueueCells, tables: &Tables| {
+            returned(queue.turn(|request| fault(answered_by(tables, request))))
+        };
+        let (_, difference, text) = found_in_queue(&mut Turning(fault), 2);
+        assert_eq!(difference.broker, difference.model, "{text}");
+    }
+    // Unsound tables grant everything, or answer another error.
+    found_answer(
+        |tables, request| match check(tables) {
+            Ok(model) => answered(Some(&model), request).1,
+            Err(_) => [0; 4],
+        },
+        3,
+    );
+}
+
+/// Answers a slot by the tables at the post, which it keeps beside the queue.
+#[derive(Default)]
+struct AnsweringAtThePost {
+    tables: Tables,
+    kept: [SlotAnswer; SLOTS],
+}
+
+impl Broker for AnsweringAtThePost {
+    fn answer(&mut self, tables: &mut Tables, call: &Call) -> Reply {
+        let reply = Rereading.answer(tables, call);
+        self.tables.clone_from(tables);
+        reply
+    }
+
+    fn post(&mut self, queue: &mut QueueCells, slot: u64, request: Request) -> u64 {
+        let answer = queue.post(slot, request);
+        if answer.is_ok() {
+            self.kept[slot as usize] = answered_by(&self.tables, request);
+        }
+        returned(answer)
+    }
+
+    fn turn(&mut self, queue: &mut QueueCells, _: &Tables) -> u64 {
+        let next = queue.decode().ok().and_then(|queue| queue.next());
+        returned(queue.turn(|_| self.kept[next.unwrap_or(0)]))
+    }
+}
+
+#[test]
+fn answers_by_the_tables_at_the_post_are_found() {
+    let (_, difference) = found(&mut AnsweringAtThePost::default());
+    assert_eq!(difference.broker, difference.model);
+    assert!(!difference.queue.is_empty());
+}
+
+/// Turns over a queue that is not sound, read as a sound one.
+fn found_unsound(mended: fn(&mut QueueCells), steps: usize) {
+    let fault = |queue: &mut QueueCells, tables: &Tables| {
+        mended(queue);
+        returned(queue.turn(|request| answered_by(tables, request)))
+    };
+    let (_, difference, text) = found_in_queue(&mut Turning(fault), steps);
+    assert_eq!(difference.model.number, Errno::EIO.returned(), "{text}");
+    let fault = |queue: &mut QueueCells, slot: u64, request: Request| {
+        mended(queue);
+        returned(queue.post(slot, request))
+    };
+    let (_, difference, text) = found_in_queue(&mut Posting(fault), steps);
+    assert_eq!(difference.model.number, Errno::EIO.returned(), "{text}");
+}
+
+#[test]
+fn queues_that_are_not_sound_and_are_taken_are_found() {
+    found_unsound(|queue| queue.cursor = queue.cursor.min(7), 2);
+    found_unsound(|queue| queue.cursor %= 8, 2);
+    let states = |queue: &mut QueueCells| {
+        for state in queue.lists[1].iter_mut().filter(|state| **state > 2) {
+            *state = 0;
+        }
+    };
+    found_unsound(states, 2);
+    // The state of the first byte alone.
+    found_unsound(
+        |queue| queue.lists[1].iter_mut().for_each(|state| *state %= 256),
+        2,
+    );
+    // Lists that are longer.
+    for list in QueuePart::LISTS {
+        let longer = match list {
+            QueuePart::Requests => |queue: &mut QueueCells| queue.lists[0].truncate(24),
+            QueuePart::States => |queue: &mut QueueCells| queue.lists[1].truncate(8),
+            _ => |queue: &mut QueueCells| queue.lists[2].truncate(32),
+        };
+        found_unsound(longer, 2);
+    }
+    // And shorter.
+    found_unsound(
+        |queue| {
+            for list in QueuePart::LISTS {
+                let length = queue.length(list).max(list.length());
+                queue.resize(list, length);
+            }
+        },
+        2,
+    );
+}
+
 /// Looks at the first bytes of an attribute alone.
 struct FirstBytes;
 
@@ -1660,7 +2047,7 @@ fn a_byte_of_a_long_attribute_is_found() {
 fn the_model_does_not_differ_from_itself_and_meets_everything() {
     let options = Options {
         seed: 1,
-        calls: 50_000,
+        calls: 80_000,
         seconds: None,
     };
     let mut tally = Tally::default();

@@ -298,6 +298,13 @@ const CALLS: &[(&str, usize)] = &[
     ("exchange", 4),
     ("lookup", 1),
     ("component", 2),
+    ("post", 4),
+    ("post 3 main root 4\nslot", 1),
+    ("post 7 main root 4\nturn\npost", 4),
+    ("poke states", 2),
+    ("poke states 2 1\npoke requests", 2),
+    ("poke answers 8 13 1 0 0\npoke states 2 2\nslot", 1),
+    ("poke cursor 0", 1),
     ("poke_name", 2),
     ("poke_name", 3),
     ("poke names", 2),
@@ -325,7 +332,8 @@ fn any_numbers_are_played() {
     for _ in 0..1500 {
         let (call, count) = *noise.pick(CALLS);
         let numbers: Vec<&str> = (0..count).map(|_| *noise.pick(NUMBERS)).collect();
-        tried.out(format!("{call} {}", numbers.join(" ")).as_bytes());
+        let last = noise.pick(&["", "\nturn", "\nslot 2"]);
+        tried.out(format!("{call} {}{last}", numbers.join(" ")).as_bytes());
     }
     assert!(tried.0.iter().all(|count| *count > 20), "{tried:?}");
 }

@@ -39,7 +39,8 @@ Options
                 fields
   --all-rights  a column for each of the 16 rights, not only for those that
                 some layer handles
-  -v, --verbose says below each access how many entries' rules were read
+  -v, --verbose says below each access and turn how many entries' rules were
+                read
   --color WHEN  always, never or auto: where output is a terminal and NO_COLOR
                 is not set (default)
   -h, --help    this text
@@ -47,7 +48,7 @@ Options
 
 Format (in full: docs/SCENARIO.md)
   [repeat N] CALL ARGUMENT .. [-> LABEL] [=> ANSWER [layer=N] [rights=RIGHTS]
-  [entries_read=N] [start=N] [length=N]]
+  [entries_read=N] [start=N] [length=N] [answer=ANSWER]]
   # a comment, to the end of the line
 
   repeat N makes the call N times, from 1 to 100,000, each with that answer.
@@ -58,13 +59,15 @@ Format (in full: docs/SCENARIO.md)
   layer=N and rights=RIGHTS say which layer must refuse and for which rights;
   none and none where no layer does. entries_read=N says how many entries'
   rules an access must read, start=N and length=N which part of its path a
-  component must be.
+  component must be. A turn answers the slot that it serves, or idle, with
+  answer=, layer=, rights= and entries_read= for what it answers there; slot
+  answers empty, waiting or answered, with the same words.
 
-  Tables start fresh at level 6. A number is decimal or hexadecimal (0x1f). An
-  entry, ruleset or thread (a TARGET too) is a number or a bound label; root is
-  entry 0, main is thread 0. An entry may also be an absolute path, which is
-  looked up just before the call; one that is not found stands for an entry
-  that is not live.
+  Tables start fresh at level 6, and so does the queue, which fresh leaves
+  alone. A number is decimal or hexadecimal (0x1f). An entry, ruleset or thread
+  (a TARGET too) is a number or a bound label; root is entry 0, main is thread
+  0. An entry may also be an absolute path, which is looked up just before the
+  call; one that is not found stands for an entry that is not live.
 
   A NAME or a PATH is any word, with \\xNN for a byte, \\\\ for a backslash, \\i
   for the round of repeat and \\*N{TEXT} for N times a text; \"\" is empty.
@@ -96,6 +99,10 @@ Format (in full: docs/SCENARIO.md)
     exchange THREAD SOURCE PATH
     lookup PATH
     component PATH PLACE
+    post SLOT THREAD ENTRY RIGHTS
+    turn
+    slot SLOT
+    fresh_queue
     poke_name ENTRY NAME [COUNT]
     poke TABLE CELL VALUE [COUNT STEP RISE]
 
@@ -104,10 +111,12 @@ Format (in full: docs/SCENARIO.md)
   A PATH in place of a directory and a name, or of a directory and an entry:
   its last component is the name or the entry, what stands before it the
   directory.
-  TABLE: system entries rulesets layers pool threads names. COUNT, STEP and
-  RISE make a run of writes: how many, how many cells from one to the next, and
-  how much each value is above the last. poke_name writes the row of an entry's
-  name, or COUNT rows from there on, with \\i counting from 1.
+  SLOT: a number; the queue has 0 to 7.
+  TABLE: system entries rulesets layers pool threads names, or of the queue
+  requests states answers cursor. COUNT, STEP and RISE make a run of writes: how
+  many, how many cells from one to the next, and how much each value is above
+  the last. poke_name writes the row of an entry's name, or COUNT rows from
+  there on, with \\i counting from 1.
 
 Rights: a number, none, or names joined by + in any letter case
   files   execute write_file read_file read_dir remove_dir remove_file

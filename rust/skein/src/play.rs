@@ -1,17 +1,19 @@
 //! Plays a scenario on the broker.
 use crate::scenario::{
-    Answer, Bad, BadLine, Call, Mask, Masks, Names, Operand, Other, Place, Report, RulesetBytes,
-    RulesetCall, Scenario, Space, Statement, Text, ThreadCall, TreeCall,
+    Answer, Bad, BadLine, Call, Mask, Masks, Names, Operand, Other, Place, Poked, QueueCall,
+    Report, RulesetBytes, RulesetCall, Scenario, SlotReport, Space, Statement, Text, ThreadCall,
+    TreeCall,
 };
 use crate::words::quoted;
 use skeinrabbit::{
-    component_range, Attribute, Cells, Entry, Errno, Judged, Layer, Level, PortRights, Refusal,
-    Rights, Rule, Ruleset, Scopes, Table, Tables, Thread,
+    component_range, Attribute, Cells, Entry, Errno, Judged, Layer, Level, PortRights, Queue,
+    Refusal, Rights, Rule, Ruleset, Scopes, Slot, SlotState, Table, Tables, Thread, Turn,
 };
 
-/// Tables and names as the lines so far left them.
+/// Tables, queue and names as the lines so far left them.
 pub struct Player {
     pub tables: Tables,
+    queue: Queue,
     pub names: Names,
     /// The round of the line that is played.
     round: u64,
@@ -24,7 +26,7 @@ pub struct Played<'s> {
     pub round: u64,
     /// The answer of that round.
     pub answer: Answer,
-    /// Which layer refused in it, of a call with a verdict, and what an access read.
+    /// Which layer refused in it, of a call with a verdict, and what an access read; the answer of a slot.
     pub report: Option<Report>,
     /// The rules that `layer_rules` gave in it.
     pub rules: Vec<Rule>,
@@ -116,6 +118,7 @@ fn judged<R: Default>(result: Result<Answer, Refusal<R>>, mask: fn(R) -> Mask) -
             rights: mask(rights),
             entries_read: None,
             part: None,
+            slot: None,
         })
     };
     match result {
@@ -163,6 +166,7 @@ impl Player {
         let names = Names::default();
         Self {
             tables,
+            queue: Queue::new(),
             names,
             round: 1,
         }
@@ -192,7 +196,8 @@ impl Player {
             Call::Tree { thread, call } => self.tree_call(thread, call)?,
             Call::Lookup { path } => (self.lookup(path), None),
             Call::Component { path, place } => self.component(path, *place, &mut part),
-            Call::Poke { table, writes } => (self.poke(*table, writes), None),
+            Call::Queue(call) => self.queue_call(call)?,
+            Call::Poke { poked, writes } => (self.poke(*poked, writes), None),
             Call::PokeName { first, count, name } => (self.poke_name(*first, *count, name), None),
         };
         self.names.forget_gone(&self.tables);
@@ -358,19 +363,81 @@ impl Player {
             rights: Mask::Files(Rights::NONE),
             entries_read: None,
             part: Some((count(range.start), count(range.len()))),
+            slot: None,
         };
         part.extend_from_slice(path.get(range).unwrap_or_default());
         (Answer::Done, Some(report))
     }
 
-    fn poke(&mut self, table: Table, writes: &[(usize, u64)]) -> Answer {
+    fn queue_call(&mut self, call: &QueueCall) -> Result<Said, Bad> {
+        Ok(match call {
+            QueueCall::Fresh => {
+                self.queue = Queue::new();
+                (Answer::Done, None)
+            }
+            QueueCall::Post {
+                slot,
+                thread,
+                entry,
+                rights,
+            } => {
+                let (thread, entry) = (self.thread(thread)?, self.entry(entry)?);
+                (done(self.queue.post(*slot, thread, entry, *rights)), None)
+            }
+            QueueCall::Turn => match self.queue.turn(&self.tables) {
+                Ok(Turn::Served(slot)) => (Answer::Served(slot), self.slot(slot).1),
+                Ok(Turn::Idle) => (Answer::Idle, None),
+                Err(errno) => (Answer::Refused(errno), None),
+            },
+            QueueCall::Slot { slot } => self.slot(*slot),
+        })
+    }
+
+    /// The state of a slot, and its request and answer; empty where there is no such slot.
+    fn slot(&self, slot: Slot) -> Said {
+        let Some(row) = self.queue.slot(slot) else {
+            return (Answer::State(SlotState::Empty), None);
+        };
+        let (answer, report) = accessed(row.kept);
+        let of_slot = SlotReport {
+            slot,
+            thread: row.thread,
+            entry: row.entry,
+            rights: row.rights,
+            state: row.state,
+            answer: match answer {
+                Answer::Refused(errno) => Err(errno),
+                _ => Ok(()),
+            },
+        };
+        let report = report.map(|report| Report {
+            slot: Some(of_slot),
+            ..report
+        });
+        (Answer::State(row.state), report)
+    }
+
+    fn poke(&mut self, poked: Poked, writes: &[(usize, u64)]) -> Answer {
+        // The line was read with cells and values that fit.
+        match poked {
+            Poked::Table(table) => self.poke_table(table, writes),
+            Poked::Queue(part) => {
+                let mut cells = self.queue.cells().clone();
+                for (cell, value) in writes {
+                    cells.set(part, *cell, *value);
+                }
+                self.queue = Queue::from_cells(cells);
+            }
+        }
+        Answer::Done
+    }
+
+    fn poke_table(&mut self, table: Table, writes: &[(usize, u64)]) {
         let mut cells = self.tables.cells().clone();
         for (cell, value) in writes {
-            // The line was read with cells and values that fit.
             cells.set(table, *cell, *value);
         }
         self.tables = Tables::from_cells(cells);
-        Answer::Done
     }
 
     fn poke_name(&mut self, first: u64, count: u64, name: &Text) -> Answer {

@@ -3,9 +3,9 @@ use crate::json::Json;
 use crate::lines::{broken, Row};
 use crate::paint::Paint;
 use crate::play::{Play, Played};
-use crate::scenario::{written, Answer, Call, Mask, Report, RulesetCall, Space};
+use crate::scenario::{written, Answer, Call, Mask, Report, RulesetCall, SlotReport, Space};
 use crate::words::{cut, shown};
-use skeinrabbit::{Errno, Layer, Rights, Rule};
+use skeinrabbit::{Errno, Layer, Rights, Rule, SlotState};
 
 /// All calls, and how many answers differ; with more words, what each access read.
 pub fn text(play: &Play, width: usize, verbose: bool, paint: Paint) -> String {
@@ -79,6 +79,11 @@ pub fn reason(played: &Played) -> Option<String> {
         return Some(format!("{errno}: {denial}"));
     }
     let reason = match (&played.statement.call, errno) {
+        (Call::Queue(_), Errno::EIO) => "the queue is not sound",
+        (Call::Queue(_), Errno::EINVAL) => "there is no such slot",
+        (Call::Queue(_), Errno::EAGAIN) => "a request waits in the slot",
+        (_, Errno::EIO) => "the tables are not sound",
+        (_, Errno::EAGAIN) => "no free thread",
         (Call::Ruleset(RulesetCall::Restrict { .. }), Errno::EPERM) => {
             "the thread has neither no_new_privs nor admin set"
         }
@@ -103,6 +108,27 @@ fn denial(played: &Played) -> Option<String> {
         }
         _ => format!("layer {layer} denies {rights}"),
     })
+}
+
+/// The request of a slot that was served or read and its answer, in words; of a slot that is not answered what its answer's
+/// cells hold.
+fn slot_lines(played: &Played) -> Vec<String> {
+    let slot = played.report.and_then(|report| report.slot);
+    let Some(slot) = slot.filter(|slot| slot.state != SlotState::Empty) else {
+        return Vec::new();
+    };
+    let SlotReport {
+        thread,
+        entry,
+        rights,
+        ..
+    } = slot;
+    let what = if slot.is_answered() { "answer" } else { "kept" };
+    let why = denial(played).map_or(String::new(), |denial| format!(": {denial}"));
+    vec![
+        format!("request: thread {thread}, entry {entry}, {rights}"),
+        format!("{what}: {}{why}", slot.answer()),
+    ]
 }
 
 /// How far a line that goes on is indented.
@@ -166,13 +192,19 @@ impl Layout {
         row.cell(self.line.saturating_sub(number.len()), &number, plain);
         row.fill(self.text, &call_text(played, self.room));
         row.cell(self.answer, &answer(played, self.room), plain);
+        let mut wide = String::new();
         if played.differs() {
             let verdict = format!("DIFFERS: {}", verdict(played));
-            row.cell(self.verdict, &verdict, |text| paint.differing(text));
+            if indent + verdict.chars().count() > self.width {
+                wide = self.wide(&verdict, indent, paint);
+            } else {
+                row.cell(self.verdict, &verdict, |text| paint.differing(text));
+            }
         } else if statement.names_an_answer() {
             row.cell(self.verdict, "ok", |text| paint.granted(text));
         }
         let mut out = row.end();
+        out.push_str(&wide);
         let read = entries_read(played).filter(|_| self.verbose);
         for line in below(played).into_iter().chain(read) {
             let mut row = Row::new(indent + INDENT, self.width);
@@ -183,15 +215,38 @@ impl Layout {
     }
 }
 
+impl Layout {
+    /// A verdict that has no room in one line.
+    fn wide(&self, verdict: &str, indent: usize, paint: Paint) -> String {
+        let mut row = Row::new(indent + INDENT, self.width);
+        row.fill(indent, verdict);
+        let lines = row.end();
+        let painted = lines.lines().map(|line| {
+            let words = line.trim_start_matches(' ');
+            let blanks = " ".repeat(line.len() - words.len());
+            format!("{blanks}{}\n", paint.differing(words))
+        });
+        painted.collect()
+    }
+}
+
 /// How many entries' rules an access read, in words.
 fn entries_read(played: &Played) -> Option<String> {
-    let read = played.report?.entries_read?;
+    let report = played.report?;
+    let read = report.entries_read?;
+    if report.slot.is_some_and(|slot| !slot.is_answered()) {
+        return None;
+    }
     let noun = if read == 1 { "entry" } else { "entries" };
     Some(format!("rules of {read} {noun} read"))
 }
 
 /// What stands below a call: why it was refused, if that differs or a layer did it, and the rules of a layer.
 fn below(played: &Played) -> Vec<String> {
+    let slot = slot_lines(played);
+    if !slot.is_empty() {
+        return slot;
+    }
     let why = if played.differs() {
         reason(played)
     } else {
@@ -257,6 +312,8 @@ pub fn call_json(played: &Played) -> Json {
     let (number, errno) = match played.answer {
         Answer::Done => (Some(0), None),
         Answer::New(number) | Answer::Found(number) => (Some(number), None),
+        Answer::Served(slot) => (Some(slot.number()), None),
+        Answer::Idle | Answer::State(_) => (None, None),
         Answer::Refused(errno) => (None, Some(errno)),
     };
     let (layer, rights) = named(played).unzip();
@@ -297,6 +354,27 @@ pub fn call_json(played: &Played) -> Json {
             Json::option(played.report.and_then(|report| report.part), |part| {
                 part_json(part, &played.part)
             }),
+        ),
+        (
+            "slot",
+            Json::option(played.report.and_then(|report| report.slot), slot_json),
+        ),
+    ])
+}
+
+/// A slot that was served or read: its request, and its answer or what the cells of one hold.
+fn slot_json(slot: SlotReport) -> Json {
+    let errno = slot.answer.err();
+    Json::Object(vec![
+        ("slot", Json::Number(slot.slot.number())),
+        ("thread", Json::Number(slot.thread.number())),
+        ("entry", Json::Number(slot.entry.number())),
+        ("rights", rights_json(slot.rights.iter())),
+        ("answered", Json::Bool(slot.is_answered())),
+        ("answer", Json::text(slot.answer().to_string())),
+        (
+            "errno",
+            Json::option(errno, |errno| Json::Number(errno.number().into())),
         ),
     ])
 }

@@ -796,3 +796,123 @@ component // 0 => 0 length=1
     assert_eq!(lookup.at("bound").at("name").text(), "top");
     assert_eq!(lookup.at("part"), &Value::Null);
 }
+
+#[test]
+fn a_turn_shows_the_slot_and_its_answer() {
+    let text = "\
+create main /page regular -> page => new 1
+create_ruleset fs=write_file -> rs => new 0
+set_no_new_privs main => 0
+restrict main rs => 0
+post 3 main page write_file => 0
+slot 3 => waiting
+turn => 3 answer=EACCES layer=0 rights=write_file entries_read=2
+turn => idle
+post 3 main page read_file => 0
+post 3 main page read_file
+turn => 3 answer=0
+turn => 3
+slot 3 => answered answer=0 layer=none
+slot 4 => empty
+";
+    let ran = skein_with(&["run", "-v", "-"], text.as_bytes());
+    let expected = "\
+ 5  post 3 main page write_file   0              ok
+ 6  slot 3                        waiting        ok
+        request: thread 0, entry 1, write_file
+        kept: 0
+ 7  turn                          3              ok
+        request: thread 0, entry 1, write_file
+        answer: EACCES: layer 0 denies write_file
+        rules of 2 entries read
+ 8  turn                          idle           ok
+ 9  post 3 main page read_file    0              ok
+10  post 3 main page read_file    EAGAIN         DIFFERS: must succeed
+        EAGAIN: a request waits in the slot
+11  turn                          3              ok
+        request: thread 0, entry 1, read_file
+        answer: 0
+        rules of 0 entries read
+12  turn                          idle           DIFFERS: expected 3
+13  slot 3                        answered       ok
+        request: thread 0, entry 1, read_file
+        answer: 0
+        rules of 0 entries read
+14  slot 4                        empty          ok
+14 calls, 13 expectations, 2 differing: lines 10, 12
+";
+    assert!(ran.out.ends_with(expected), "{}", ran.out);
+    assert_eq!(ran.code, 1);
+}
+
+#[test]
+fn refusals_of_the_queue_are_explained() {
+    let text = "post 8 main root 8\npoke cursor 0 8\npost 0 main root 8\nturn\npoke cursor 0 7\npoke system 0 7\nclone main\n";
+    let ran = skein_with(&["run", "-"], text.as_bytes());
+    for reason in [
+        "EINVAL: there is no such slot",
+        "EIO: the queue is not sound",
+        "EIO: the tables are not sound",
+    ] {
+        assert!(ran.out.contains(reason), "{reason}: {}", ran.out);
+    }
+}
+
+#[test]
+fn json_has_the_slot_and_its_answer() {
+    let text = "\
+create_ruleset fs=read_dir -> rs
+set_no_new_privs main
+restrict main rs
+post 6 main root read_dir+refer
+turn
+turn
+slot 6
+post 6 9 root read_dir
+slot 6
+";
+    let document = json(&skein_with(&["run", "--json", "-"], text.as_bytes()).out);
+    let [.., post, served, idle, read, _, waiting] = document.at("calls").list() else {
+        panic!("some calls");
+    };
+    assert_eq!(post.at("slot"), &Value::Null);
+    assert_eq!(served.at("answer").text(), "6");
+    assert_eq!(served.at("number").number(), 6);
+    assert_eq!(served.at("layer").number(), 0);
+    assert_eq!(served.at("rights").texts(), ["read_dir", "refer"]);
+    assert_eq!(served.at("entries_read").number(), 1);
+    for call in [served, read] {
+        let slot = call.at("slot");
+        assert_eq!(slot.at("slot").number(), 6);
+        assert_eq!(slot.at("thread").number(), 0);
+        assert_eq!(slot.at("entry").number(), 0);
+        assert_eq!(slot.at("rights").texts(), ["read_dir", "refer"]);
+        assert_eq!(slot.at("answered"), &Value::Bool(true));
+        assert_eq!(slot.at("answer").text(), "EACCES");
+        assert_eq!(slot.at("errno").number(), 13);
+    }
+    assert_eq!(idle.at("answer").text(), "idle");
+    assert_eq!(idle.at("number"), &Value::Null);
+    assert_eq!(idle.at("slot"), &Value::Null);
+    assert_eq!(read.at("answer").text(), "answered");
+    assert_eq!(read.at("number"), &Value::Null);
+    assert_eq!(waiting.at("answer").text(), "waiting");
+    let slot = waiting.at("slot");
+    assert_eq!(slot.at("thread").number(), 9);
+    assert_eq!(slot.at("answered"), &Value::Bool(false));
+    assert_eq!(slot.at("answer").text(), "EACCES");
+}
+
+#[test]
+fn a_wide_expectation_is_broken_into_lines() {
+    let line =
+        "turn => 3 answer=EACCES layer=12 rights=write_file+read_file+read_dir entries_read=12";
+    let ran = skein_with(&["run", "-"], line.as_bytes());
+    let expected = "\
+1  turn  idle
+       DIFFERS: expected 3 answer=EACCES layer=12 rights=write_file+read_file+
+           read_dir entries_read=12
+1 call, 1 expectation, 1 differing: line 1
+";
+    assert_eq!((ran.code, ran.out.as_str()), (1, expected));
+}

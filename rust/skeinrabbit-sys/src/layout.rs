@@ -14,6 +14,8 @@ pub const MAX_POOL: usize = 1024;
 pub const MAX_THREADS: usize = 8;
 /// Layers of a thread's domain.
 pub const MAX_DOMAIN: usize = 64;
+/// Slots of a queue.
+pub const MAX_SLOTS: usize = 8;
 /// Bytes of an entry's name.
 pub const MAX_NAME: usize = 48;
 /// Bytes of a path that is looked up.
@@ -30,6 +32,10 @@ pub const RULE_WIDTH: usize = 3;
 pub const THREAD_WIDTH: usize = 4;
 /// The bytes of a row of `names`: the name's length, the name, zeros.
 pub const NAME_WIDTH: usize = 1 + MAX_NAME;
+
+/// The cells of a slot's request and of its answer.
+pub const REQUEST_WIDTH: usize = 3;
+pub const ANSWER_WIDTH: usize = 4;
 
 /// The bytes of `names`, which has a row for each entry.
 pub const NAMES_SIZE: usize = NAME_WIDTH * MAX_ENTRIES;

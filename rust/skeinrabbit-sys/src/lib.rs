@@ -6,7 +6,7 @@
 //! Calls that say more than their number write a report, of any length: the cells that fit are written, with every answer, and
 //! cells past them stay. The report of a request about an entry or a port, or of a change of the tree, is the layer that refuses
 //! (its number + 1, or 0 for none) and its rights; behind these an access reports how many entries' rules it read. Only
-//! [`component`] takes no tables.
+//! [`component`] and [`post`] take no tables.
 #![no_std]
 
 pub mod layout;
@@ -49,6 +49,18 @@ impl Cells<'_> {
             names: self.names,
         }
     }
+}
+
+/// A queue of access requests, for the calls that may change it.
+pub struct QueueCells<'a> {
+    /// 8 rows: thread, entry, rights.
+    pub requests: &'a mut [u64],
+    /// 0 empty, 1 waiting, 2 answered.
+    pub states: &'a mut [u64],
+    /// 8 rows: error number or 0, and what an access reports.
+    pub answers: &'a mut [u64],
+    /// The slot that was served last.
+    pub cursor: &'a mut u64,
 }
 
 /// The pointer to a table's cells; one to be written through comes from an exclusive slice alone.
@@ -252,6 +264,56 @@ call! {
     lookup(tables: SharedCells, path: &[u8]),
     skein_lookup[const const const const const const const]
     (path.as_ptr() => *const u8, path.len() => usize)
+}
+
+call! {
+    /// Answers the next waiting slot of a queue, which stands behind the tables; answers its number, or 8 where none waits.
+    turn(tables: SharedCells, queue: &mut QueueCells),
+    skein_turn[const const const const const const const]
+    (
+        queue.requests.as_ptr() => *const u64,
+        queue.requests.len() => usize,
+        queue.states.as_mut_ptr() => *mut u64,
+        queue.states.len() => usize,
+        queue.answers.as_mut_ptr() => *mut u64,
+        queue.answers.len() => usize,
+        &mut *queue.cursor => *mut u64
+    )
+}
+
+/// Puts an access request into a slot of a queue, where it waits for a turn.
+pub fn post(queue: &mut QueueCells, slot: u64, thread: u64, entry: u64, rights: u64) -> u64 {
+    extern "C" {
+        fn skein_post(
+            requests: *mut u64,
+            requests_len: usize,
+            states: *mut u64,
+            states_len: usize,
+            answers: *const u64,
+            answers_len: usize,
+            cursor: *mut u64,
+            slot: u64,
+            thread: u64,
+            entry: u64,
+            rights: u64,
+        ) -> u64;
+    }
+    // As for the other calls; the four parts of the queue cannot overlap.
+    unsafe {
+        skein_post(
+            queue.requests.as_mut_ptr(),
+            queue.requests.len(),
+            queue.states.as_mut_ptr(),
+            queue.states.len(),
+            queue.answers.as_ptr(),
+            queue.answers.len(),
+            queue.cursor,
+            slot,
+            thread,
+            entry,
+            rights,
+        )
+    }
 }
 
 /// Where the first component of a path starts that starts at or after a place. Reports its start and its length; zeros where

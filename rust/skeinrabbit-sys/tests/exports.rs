@@ -7,8 +7,12 @@ const PROVED: &str = include_str!("../../../crates/capi/src/lib.rt");
 /// Whether each table may be changed, by export.
 type Changes = BTreeMap<&'static str, [bool; 7]>;
 
-/// The export that takes no tables.
-const TABLELESS: &str = "component(";
+/// The exports that take no tables.
+const TABLELESS: [&str; 2] = ["component(", "post("];
+
+fn takes_tables(row: &&str) -> bool {
+    !TABLELESS.iter().any(|name| row.starts_with(name))
+}
 
 fn changes(name: &str, tables: impl Iterator<Item = bool>) -> (&str, [bool; 7]) {
     let tables: Vec<bool> = tables.collect();
@@ -18,7 +22,7 @@ fn changes(name: &str, tables: impl Iterator<Item = bool>) -> (&str, [bool; 7]) 
 /// From `skein_restrict[mut const const mut mut mut const]`.
 fn declared() -> Changes {
     let rows = DECLARED.split("skein_").skip(1);
-    let with_tables = rows.filter(|row| !row.starts_with(TABLELESS));
+    let with_tables = rows.filter(takes_tables);
     with_tables
         .map(|row| {
             let (name, rest) = row.split_once('[').unwrap();
@@ -40,7 +44,7 @@ fn proved() -> Changes {
         ("names", "u8"),
     ];
     let exports = PROVED.split("extern \"C\" fn skein_").skip(1);
-    let with_tables = exports.filter(|export| !export.starts_with(TABLELESS));
+    let with_tables = exports.filter(takes_tables);
     with_tables
         .map(|export| {
             let (name, rest) = export.split_once("(\n").unwrap();
@@ -61,8 +65,46 @@ fn proved() -> Changes {
 #[test]
 fn tables_are_writable_exactly_where_the_proved_export_writes() {
     let (declared, proved) = (declared(), proved());
-    assert_eq!(declared.len(), 21);
+    assert_eq!(declared.len(), 22);
     for (name, tables) in declared {
         assert_eq!(proved.get(name), Some(&tables), "{name}");
     }
+}
+
+/// The parameters of an export that are the parts of a queue, each with whether it may be changed.
+fn proved_queue(name: &str) -> Vec<(&str, bool)> {
+    let export = PROVED.split("extern \"C\" fn skein_");
+    let export = export.skip(1).find(|export| export.starts_with(name));
+    let (parameters, _) = export.unwrap().split_once(") -> u64").unwrap();
+    let parameters = parameters.lines().filter_map(|line| {
+        let (part, kind) = line.trim().split_once(": ")?;
+        let parts = ["requests", "states", "answers", "cursor"];
+        parts
+            .contains(&part)
+            .then(|| (part, kind.starts_with("&mut ")))
+    });
+    parameters.collect()
+}
+
+#[test]
+fn parts_of_a_queue_are_writable_exactly_where_the_proved_export_writes() {
+    let (_, post) = DECLARED.split_once("fn skein_post(").unwrap();
+    let (post, _) = post.split_once(") -> u64").unwrap();
+    let (_, turn) = DECLARED.split_once("skein_turn[").unwrap();
+    let (turn, _) = turn.split_once("\n}").unwrap();
+    for (part, changed) in proved_queue("post(") {
+        let pointer = if changed { "*mut" } else { "*const" };
+        let declared = format!("{part}: {pointer} u64,");
+        assert!(post.contains(&declared), "{declared}");
+    }
+    for (part, changed) in proved_queue("turn(") {
+        let pointer = match (part, changed) {
+            ("cursor", _) => "&mut *queue.cursor => *mut u64".to_string(),
+            (part, true) => format!("queue.{part}.as_mut_ptr() => *mut u64,"),
+            (part, false) => format!("queue.{part}.as_ptr() => *const u64,"),
+        };
+        assert!(turn.contains(&pointer), "{pointer}");
+    }
+    assert_eq!(proved_queue("post(").len(), 4);
+    assert_eq!(proved_queue("turn(").len(), 4);
 }

@@ -1,7 +1,7 @@
 //! The calls that change nothing, on tables in memory that cannot be written: a write would end the program.
 use skeinrabbit_sys::{
-    abstract_socket, access, component, layer_rules, lookup, port, signal, SharedCells, NAMES_SIZE,
-    SIZES,
+    abstract_socket, access, component, layer_rules, lookup, port, post, signal, turn, QueueCells,
+    SharedCells, NAMES_SIZE, SIZES,
 };
 
 const fn cells<const N: usize>(first: [u64; 4]) -> [u64; N] {
@@ -37,6 +37,8 @@ const ENOENT: u64 = 2u64.wrapping_neg();
 const ESRCH: u64 = 3u64.wrapping_neg();
 const EIO: u64 = 5u64.wrapping_neg();
 const EBADF: u64 = 9u64.wrapping_neg();
+const EAGAIN: u64 = 11u64.wrapping_neg();
+const EINVAL: u64 = 22u64.wrapping_neg();
 
 #[test]
 fn requests_write_no_cell() {
@@ -112,5 +114,90 @@ fn tables_of_any_length_are_read() {
         assert_eq!(lookup(short, b"/"), EIO);
         assert_eq!(signal(short, 0, 0), EIO);
         assert_eq!(abstract_socket(short, 0, 0), EIO);
+    }
+}
+
+/// The cells of a queue, each part with a cell more than it needs.
+struct Queue {
+    requests: [u64; 25],
+    states: [u64; 9],
+    answers: [u64; 33],
+    cursor: u64,
+}
+
+impl Queue {
+    fn fresh() -> Queue {
+        Queue {
+            requests: [0; 25],
+            states: [0; 9],
+            answers: [7; 33],
+            cursor: 7,
+        }
+    }
+
+    /// The first cells of each part, so many.
+    fn cells(&mut self, lengths: [usize; 3]) -> QueueCells<'_> {
+        QueueCells {
+            requests: &mut self.requests[..lengths[0]],
+            states: &mut self.states[..lengths[1]],
+            answers: &mut self.answers[..lengths[2]],
+            cursor: &mut self.cursor,
+        }
+    }
+}
+
+#[test]
+fn turns_write_no_cell_of_the_tables() {
+    let mut queue = Queue::fresh();
+    let mut cells = queue.cells([24, 8, 32]);
+    assert_eq!(turn(FRESH, &mut cells), 8);
+    assert_eq!(post(&mut cells, 3, 0, 0, 8), 0);
+    assert_eq!(post(&mut cells, 3, 0, 0, 8), EAGAIN);
+    assert_eq!(post(&mut cells, 8, 0, 0, 8), EINVAL);
+    assert_eq!(post(&mut cells, 1, 1, 0, 8), 0);
+    assert_eq!(turn(FRESH, &mut cells), 1);
+    assert_eq!(turn(FRESH, &mut cells), 3);
+    assert_eq!(turn(FRESH, &mut cells), 8);
+    assert_eq!(queue.cursor, 3);
+    assert_eq!(queue.requests[3..12], [1, 0, 8, 0, 0, 0, 0, 0, 8]);
+    assert_eq!(queue.states, [0, 2, 0, 2, 0, 0, 0, 0, 0]);
+    assert_eq!(queue.answers[4..8], [3, 0, 0, 0]);
+    assert_eq!(queue.answers[8..12], [7; 4]);
+    assert_eq!(queue.answers[12..16], [0; 4]);
+    assert_eq!(queue.answers[32], 7);
+}
+
+#[test]
+fn unsound_tables_are_a_slots_answer() {
+    let short = SharedCells { pool: &[], ..FRESH };
+    let mut queue = Queue::fresh();
+    let mut cells = queue.cells([24, 8, 32]);
+    assert_eq!(turn(short, &mut cells), 8);
+    assert_eq!(post(&mut cells, 0, 0, 0, 8), 0);
+    assert_eq!(turn(short, &mut cells), 0);
+    assert_eq!(queue.answers[..4], [5, 0, 0, 0]);
+}
+
+#[test]
+fn queues_of_any_length_are_read() {
+    for lengths in [
+        [25, 8, 32],
+        [23, 8, 32],
+        [0, 8, 32],
+        [24, 9, 32],
+        [24, 7, 32],
+        [24, 0, 32],
+        [24, 8, 33],
+        [24, 8, 31],
+        [24, 8, 0],
+        [0, 0, 0],
+    ] {
+        let mut queue = Queue::fresh();
+        let mut cells = queue.cells(lengths);
+        assert_eq!(post(&mut cells, 0, 0, 0, 8), EIO);
+        assert_eq!(post(&mut cells, 8, 0, 0, 8), EIO);
+        assert_eq!(turn(FRESH, &mut cells), EIO);
+        assert_eq!(queue.states, [0; 9]);
+        assert_eq!(queue.answers, [7; 33]);
     }
 }

@@ -54,10 +54,10 @@ errnos! {
     EPERM = 1, "not permitted";
     ENOENT = 2, "no such entry";
     ESRCH = 3, "no such thread";
-    EIO = 5, "the tables are not sound";
+    EIO = 5, "the tables or the queue are not sound";
     E2BIG = 7, "too many or too long";
     EBADF = 9, "not open, not live or not in use";
-    EAGAIN = 11, "no free thread";
+    EAGAIN = 11, "no free thread, or the slot waits";
     ENOMEM = 12, "no room for a layer";
     EACCES = 13, "a layer denies the access";
     EBUSY = 16, "the root, or the only live thread";

@@ -103,9 +103,30 @@
 //! # Ok::<(), Errno>(())
 //! ```
 //!
+//! # Requests in turn
+//!
+//! A [`Queue`] keeps one access request for each of eight clients and answers them in turn: a client that asks all the time holds up no
+//! other for more than eight turns.
+//!
+//! ```
+//! use skeinrabbit::{AccessFs, Entry, Errno, Level, Queue, Slot, Tables, Thread, Turn};
+//!
+//! let tables = Tables::new(Level::LATEST)?;
+//! let mut queue = Queue::new();
+//! let busy = Slot::new(0);
+//! queue.post(busy, Thread::MAIN, Entry::ROOT, AccessFs::READ_DIR)?;
+//! queue.post(Slot::new(5), Thread::MAIN, Entry::ROOT, AccessFs::MAKE_DIR)?;
+//! assert_eq!(queue.turn(&tables)?, Turn::Served(busy));
+//! queue.post(busy, Thread::MAIN, Entry::ROOT, AccessFs::READ_DIR)?;
+//! assert_eq!(queue.turn(&tables)?, Turn::Served(Slot::new(5)));
+//! assert_eq!(queue.turn(&tables)?, Turn::Served(busy));
+//! assert_eq!(queue.turn(&tables)?, Turn::Idle);
+//! # Ok::<(), Errno>(())
+//! ```
+//!
 //! # Numbers
 //!
-//! Entries, rulesets, threads, layers, kinds, levels and sets of rights are numbers with a type of their own. Any number may
+//! Entries, rulesets, threads, layers, slots, kinds, levels and sets of rights are numbers with a type of their own. Any number may
 //! stand in any of them: the core tests what it gets, and a number that means nothing is refused as the specification says. No
 //! method of this crate panics.
 //!
@@ -137,6 +158,7 @@ mod level;
 mod names;
 mod numbers;
 mod policy;
+mod queue;
 mod refusal;
 mod rights;
 mod rows;
@@ -151,7 +173,8 @@ pub use errno::Errno;
 pub use kind::Kind;
 pub use level::Level;
 pub use names::{component, component_range, components};
-pub use numbers::{Entry, Layer, Ruleset, Thread};
+pub use numbers::{Entry, Layer, Ruleset, Slot, Thread};
+pub use queue::{Queue, QueueCells, QueuePart, SlotRow, SlotState, Turn};
 pub use refusal::{Judged, Refusal};
 pub use rights::{AccessFs, AccessNet, PortRights, Rights, Scope, Scopes};
 pub use rows::{Attribute, EntryRow, LayerRow, RulesetRow, ThreadRow};

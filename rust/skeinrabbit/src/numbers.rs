@@ -1,4 +1,4 @@
-//! Numbers of entries, rulesets, threads and layers.
+//! Numbers of entries, rulesets, threads, layers and slots.
 use core::fmt;
 
 macro_rules! number {
@@ -64,6 +64,11 @@ number! {
 number! {
     /// A layer, one of 256.
     Layer
+}
+
+number! {
+    /// A slot of a [`Queue`](crate::Queue), one of 8.
+    Slot
 }
 
 impl Entry {

@@ -77,18 +77,18 @@ impl<R> Refusal<R> {
         let mut report = [0; 3];
         let raw = call(&mut report);
         let [layer, bits, entries_read] = report;
-        let answer = Errno::answer(raw).map_err(|errno| match (errno, Layer::from_cell(layer)) {
-            (Errno::EACCES, Some(layer)) => Refusal::Denied {
-                layer,
-                rights: of_bits(bits),
-            },
-            (Errno::EXDEV, Some(layer)) => Refusal::Crossing {
-                layer,
-                rights: of_bits(bits),
-            },
-            _ => Refusal::Other(errno),
-        });
+        let answer = Errno::answer(raw);
+        let answer = answer.map_err(|errno| Self::named(errno, layer, of_bits(bits)));
         (answer, entries_read)
+    }
+
+    /// The refusal of a number, with the layer that a report names (its number + 1, or 0 for none) and its rights.
+    pub(crate) fn named(errno: Errno, layer: u64, rights: R) -> Self {
+        match (errno, Layer::from_cell(layer)) {
+            (Errno::EACCES, Some(layer)) => Refusal::Denied { layer, rights },
+            (Errno::EXDEV, Some(layer)) => Refusal::Crossing { layer, rights },
+            _ => Refusal::Other(errno),
+        }
     }
 }
 

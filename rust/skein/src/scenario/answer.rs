@@ -2,7 +2,7 @@
 use super::report::{Report, ReportWords, Sort};
 use super::Bad;
 use crate::words::one_of;
-use skeinrabbit::{parse_number, Errno};
+use skeinrabbit::{parse_number, Errno, Slot, SlotState};
 use std::fmt;
 
 /// What a call answered.
@@ -14,6 +14,12 @@ pub enum Answer {
     New(u64),
     /// Success, with the number of the entry that was found.
     Found(u64),
+    /// The slot that a turn served.
+    Served(Slot),
+    /// A turn where no slot waits.
+    Idle,
+    /// The state of a slot that was read.
+    State(SlotState),
     Refused(Errno),
 }
 
@@ -23,10 +29,18 @@ impl fmt::Display for Answer {
             Answer::Done => f.pad("0"),
             Answer::New(number) => f.pad(&format!("new {number}")),
             Answer::Found(number) => number.fmt(f),
+            Answer::Served(slot) => slot.fmt(f),
+            Answer::Idle => f.pad(IDLE),
+            Answer::State(state) => state.fmt(f),
             Answer::Refused(errno) => errno.fmt(f),
         }
     }
 }
+
+/// How a turn without a waiting slot is written.
+const IDLE: &str = "idle";
+/// The states of a slot that are written by name.
+const STATES: [SlotState; 3] = [SlotState::Empty, SlotState::Waiting, SlotState::Answered];
 
 /// What a call must answer and report.
 #[derive(Clone, Copy, Debug, PartialEq, Eq)]
@@ -69,6 +83,8 @@ pub enum ExpectedAnswer {
     /// The number of a success, whether something is made or not.
     Number(u64),
     New(u64),
+    Idle,
+    State(SlotState),
     Error(Errno),
 }
 
@@ -93,22 +109,30 @@ impl ExpectedAnswer {
             "any" => Some(ExpectedAnswer::Any),
             "ok" => Some(ExpectedAnswer::Success),
             "new" => Some(ExpectedAnswer::Made),
+            IDLE => Some(ExpectedAnswer::Idle),
             _ => {
                 let number = parse_number(word).map(ExpectedAnswer::Number);
-                number.or_else(|| word.parse().ok().map(ExpectedAnswer::Error))
+                let state = || STATES.into_iter().find(|state| state.to_string() == word);
+                number
+                    .or_else(|| state().map(ExpectedAnswer::State))
+                    .or_else(|| word.parse().ok().map(ExpectedAnswer::Error))
             }
         }
     }
 
     fn is_met_by(self, answer: Answer) -> bool {
-        use ExpectedAnswer::{Any, Error, Made, New, Number, Success};
+        use ExpectedAnswer::{Any, Error, Idle, Made, New, Number, State, Success};
         match (self, answer) {
-            (Any, _)
-            | (Success, Answer::Done | Answer::New(_) | Answer::Found(_))
+            (Success, Answer::Refused(_)) => false,
+            (Any | Success, _)
             | (Made, Answer::New(_))
-            | (Number(0), Answer::Done) => true,
+            | (Number(0), Answer::Done)
+            | (Idle, Answer::Idle) => true,
             (Number(number) | New(number), Answer::New(made)) => number == made,
             (Number(number), Answer::Found(found)) => number == found,
+            (Number(number), Answer::Served(slot)) => number == slot.number(),
+            (Number(number), Answer::State(state)) => state == SlotState::Unknown(number),
+            (State(expected), Answer::State(state)) => expected == state,
             (Error(expected), Answer::Refused(errno)) => expected == errno,
             _ => false,
         }
@@ -117,7 +141,8 @@ impl ExpectedAnswer {
 
 /// A word that is no answer.
 fn unknown(word: &str) -> Bad {
-    let what = "a number, `new`, `new N`, `ok`, `any`, an error's negated number (-13) or its name";
+    let what = "a number, `new`, `new N`, `ok`, `any`, `idle`, a slot's state, an error's negated \
+        number (-13) or its name";
     let errors = Errno::ALL.iter().filter_map(|errno| errno.name());
     let known: Vec<&str> = errors.collect();
     Bad::word(word, one_of(what, word, &known))
@@ -131,6 +156,8 @@ impl fmt::Display for ExpectedAnswer {
             ExpectedAnswer::Made => f.pad("new"),
             ExpectedAnswer::Number(number) => number.fmt(f),
             ExpectedAnswer::New(number) => f.pad(&format!("new {number}")),
+            ExpectedAnswer::Idle => f.pad(IDLE),
+            ExpectedAnswer::State(state) => state.fmt(f),
             ExpectedAnswer::Error(errno) => errno.fmt(f),
         }
     }

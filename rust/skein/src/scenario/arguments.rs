@@ -1,9 +1,10 @@
 //! The words of a line, taken one after another.
 use super::names::{is_name, Declared, Operand, Space};
+use super::poke::Poked;
 use super::text::Text;
 use super::Bad;
 use crate::words::one_of;
-use skeinrabbit::{parse_number, Kind, ParseError, PortRights, Rights, Scopes, Table};
+use skeinrabbit::{parse_number, Kind, ParseError, PortRights, QueuePart, Rights, Scopes, Table};
 use std::str::FromStr;
 
 /// The words of a call that were not yet taken.
@@ -168,11 +169,12 @@ impl Named for Kind {
     }
 }
 
-impl Named for Table {
-    const WHAT: &'static str = "a table";
+impl Named for Poked {
+    const WHAT: &'static str = "a table or a part of the queue";
 
     fn names() -> Vec<String> {
-        let names = Table::ALL.into_iter().map(Table::name);
+        let tables = Table::ALL.into_iter().map(Table::name);
+        let names = tables.chain(QueuePart::ALL.into_iter().map(QueuePart::name));
         names.map(str::to_owned).collect()
     }
 }

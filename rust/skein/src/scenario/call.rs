@@ -1,7 +1,8 @@
 //! The calls and their arguments.
 use super::names::Operand;
+use super::poke::Poked;
 use super::text::Text;
-use skeinrabbit::{Attribute, Kind, Layer, Level, PortRights, Rights, Scopes, Table};
+use skeinrabbit::{Attribute, Kind, Layer, Level, PortRights, Rights, Scopes, Slot};
 
 /// A call with its arguments.
 #[derive(Debug, PartialEq, Eq)]
@@ -28,6 +29,7 @@ pub enum Call {
         path: Text,
         place: u64,
     },
+    Queue(QueueCall),
     /// Writes rows of `names`: of `count` entries from the first on, counted as rounds are.
     PokeName {
         first: u64,
@@ -35,9 +37,26 @@ pub enum Call {
         name: Text,
     },
     Poke {
-        table: Table,
-        /// Cells of the table, each with its new value.
+        poked: Poked,
+        /// Cells of the table or of the part, each with its new value.
         writes: Vec<(usize, u64)>,
+    },
+}
+
+/// What happens to the queue.
+#[derive(Debug, PartialEq, Eq)]
+pub enum QueueCall {
+    Fresh,
+    Post {
+        slot: Slot,
+        thread: Operand,
+        entry: Operand,
+        rights: Rights,
+    },
+    Turn,
+    /// Reads a slot.
+    Slot {
+        slot: Slot,
     },
 }
 

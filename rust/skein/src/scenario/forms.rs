@@ -1,14 +1,14 @@
 //! How each call is written.
-use super::arguments::Arguments;
+use super::arguments::{number, Arguments};
 use super::attribute::create_ruleset;
-use super::call::{Call, Other, Place, RulesetCall, ThreadCall, TreeCall};
+use super::call::{Call, Other, Place, QueueCall, RulesetCall, ThreadCall, TreeCall};
 use super::names::{Operand, Space};
 use super::poke::{poke, poke_name};
 use super::report::Sort;
 use super::text::Text;
 use super::Bad;
 use crate::words::one_of;
-use skeinrabbit::{parse_number, Layer, Level, Scopes};
+use skeinrabbit::{parse_number, Layer, Level, Scopes, Slot};
 
 /// A call as it is written.
 pub struct Form {
@@ -49,7 +49,7 @@ const LINK: &str = "link THREAD SOURCE DIRECTORY NAME` or `link THREAD SOURCE PA
 const RENAME: &str = "rename THREAD SOURCE DIRECTORY NAME` or `rename THREAD SOURCE PATH";
 const EXCHANGE: &str = "exchange THREAD SOURCE DIRECTORY ENTRY` or `exchange THREAD SOURCE PATH";
 
-static FORMS: [Form; 24] = [
+static FORMS: [Form; 28] = [
     form("fresh LEVEL", None, fresh),
     form(CREATE_RULESET, Some(Space::Ruleset), create_ruleset),
     form("close_ruleset RULESET", None, close_ruleset),
@@ -80,6 +80,10 @@ static FORMS: [Form; 24] = [
     judged(EXCHANGE, None, Sort::Change, exchange),
     form("lookup PATH", Some(Space::Entry), lookup),
     judged("component PATH PLACE", None, Sort::Component, component),
+    form("post SLOT THREAD ENTRY RIGHTS", None, post),
+    judged("turn", None, Sort::Slot, turn),
+    judged("slot SLOT", None, Sort::Slot, slot),
+    form("fresh_queue", None, fresh_queue),
     form("poke_name ENTRY NAME [COUNT]", None, poke_name),
     form("poke TABLE CELL VALUE [COUNT STEP RISE]", None, poke),
 ];
@@ -286,4 +290,34 @@ fn component(arguments: &mut Arguments) -> Result<Call, Bad> {
         path: arguments.text()?,
         place: arguments.number("a place")?,
     })
+}
+
+fn post(arguments: &mut Arguments) -> Result<Call, Bad> {
+    Ok(Call::Queue(QueueCall::Post {
+        slot: Slot::new(arguments.number("a slot")?),
+        thread: arguments.thread()?,
+        entry: arguments.entry()?,
+        rights: arguments.value()?,
+    }))
+}
+
+fn turn(_: &mut Arguments) -> Result<Call, Bad> {
+    Ok(Call::Queue(QueueCall::Turn))
+}
+
+/// A slot that is read is one of the eight: no call of the broker refuses another.
+fn slot(arguments: &mut Arguments) -> Result<Call, Bad> {
+    let word = arguments.word()?;
+    let slot = number(word, "a slot")?;
+    if slot > LAST_SLOT {
+        return Err(Bad::word(word, format!("a slot from 0 to {LAST_SLOT}")));
+    }
+    let slot = Slot::new(slot);
+    Ok(Call::Queue(QueueCall::Slot { slot }))
+}
+
+const LAST_SLOT: u64 = 7;
+
+fn fresh_queue(_: &mut Arguments) -> Result<Call, Bad> {
+    Ok(Call::Queue(QueueCall::Fresh))
 }

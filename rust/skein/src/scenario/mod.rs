@@ -11,9 +11,12 @@ mod report;
 mod text;
 
 pub use answer::{Answer, Expected, ExpectedAnswer};
-pub use call::{Call, Masks, Other, Place, RulesetBytes, RulesetCall, ThreadCall, TreeCall};
+pub use call::{
+    Call, Masks, Other, Place, QueueCall, RulesetBytes, RulesetCall, ThreadCall, TreeCall,
+};
 pub use names::{Names, Operand, Space};
-pub use report::{Mask, Report, ReportWords};
+pub use poke::Poked;
+pub use report::{Mask, Report, ReportWords, SlotReport};
 pub use text::{written, Text};
 
 use crate::words::quoted;

@@ -1,7 +1,8 @@
-//! What a request, a change of the tree or a component says beside its answer, and what a line says of that.
+//! What a request, a change of the tree, a component or a slot says beside its answer, and what a line says of that.
+use super::answer::Answer;
 use super::arguments::{number, value};
 use super::Bad;
-use skeinrabbit::{Layer, PortRights, Rights};
+use skeinrabbit::{Entry, Errno, Layer, PortRights, Rights, Slot, SlotState, Thread};
 use std::fmt;
 
 /// Which layer refused, and for which rights; no layer and no rights where none did.
@@ -13,6 +14,31 @@ pub struct Report {
     pub entries_read: Option<u64>,
     /// Where the component of a path starts and how long it is; zeros where there is none.
     pub part: Option<(u64, u64)>,
+    /// The slot that a turn served or that was read; the layer, the rights and the entries are then those of its answer.
+    pub slot: Option<SlotReport>,
+}
+
+/// A slot: its request, and what its answer's cells hold.
+#[derive(Clone, Copy, Debug, PartialEq, Eq)]
+pub struct SlotReport {
+    pub slot: Slot,
+    pub thread: Thread,
+    pub entry: Entry,
+    pub rights: Rights,
+    pub state: SlotState,
+    pub answer: Result<(), Errno>,
+}
+
+impl SlotReport {
+    /// Whether the answer is that of the request.
+    pub fn is_answered(&self) -> bool {
+        self.state == SlotState::Answered
+    }
+
+    /// The answer as `run` shows it.
+    pub fn answer(&self) -> Answer {
+        self.answer.map_or_else(Answer::Refused, |()| Answer::Done)
+    }
 }
 
 /// Rights of one sort or the other.
@@ -38,13 +64,14 @@ pub enum Sort {
     Port,
     Change,
     Component,
+    Slot,
 }
 
 impl Sort {
     fn mask(self, word: &str) -> Result<Mask, Bad> {
         match self {
-            Sort::Access | Sort::Change | Sort::Component => value(word).map(Mask::Files),
             Sort::Port => value(word).map(Mask::Ports),
+            _ => value(word).map(Mask::Files),
         }
     }
 
@@ -55,6 +82,9 @@ impl Sort {
                 "layer=, rights=, entries_read= or the end of the line after the answer"
             }
             Sort::Component => "start=, length= or the end of the line after the answer",
+            Sort::Slot => {
+                "answer=, layer=, rights=, entries_read= or the end of the line after the answer"
+            }
             _ => "layer=, rights= or the end of the line after the answer",
         }
     }
@@ -69,6 +99,8 @@ pub struct ReportWords {
     entries_read: Option<u64>,
     start: Option<u64>,
     length: Option<u64>,
+    /// What a slot's answer is.
+    answer: Option<Result<(), Errno>>,
 }
 
 impl ReportWords {
@@ -95,9 +127,12 @@ impl ReportWords {
             _ if sort == Sort::Component => return Err(Bad::word(word, sort.expected())),
             Some(("layer", text)) => self.layer.replace(layer(text)?).is_some(),
             Some(("rights", text)) => self.rights.replace(sort.mask(text)?).is_some(),
-            Some(("entries_read", text)) if sort == Sort::Access => {
+            Some(("entries_read", text)) if matches!(sort, Sort::Access | Sort::Slot) => {
                 let count = number(text, "how many entries")?;
                 self.entries_read.replace(count).is_some()
+            }
+            Some(("answer", text)) if sort == Sort::Slot => {
+                self.answer.replace(slot_answer(text)?).is_some()
             }
             _ => return Err(Bad::word(word, sort.expected())),
         };
@@ -118,12 +153,24 @@ impl ReportWords {
         let rights = self.rights.is_none() || self.rights == report.map(|report| report.rights);
         let read = report.and_then(|report| report.entries_read);
         let (start, length) = report.and_then(|report| report.part).unzip();
+        let slot = report.and_then(|report| report.slot);
+        let answer = slot.map(|slot| slot.answer);
         layer
             && rights
             && (self.entries_read.is_none() || self.entries_read == read)
             && (self.start.is_none() || self.start == start)
             && (self.length.is_none() || self.length == length)
+            && (self.answer.is_none() || self.answer == answer)
     }
+}
+
+/// A slot's answer: 0 or an error.
+fn slot_answer(word: &str) -> Result<Result<(), Errno>, Bad> {
+    if word == "0" {
+        return Ok(Ok(()));
+    }
+    let errno = word.parse().map(Err);
+    errno.map_err(|_| Bad::word(word, "0, an error's negated number (-13) or its name"))
 }
 
 /// A layer's number, or that there is none.
@@ -137,6 +184,11 @@ fn layer(word: &str) -> Result<Option<Layer>, Bad> {
 /// The words as they stand after an answer.
 impl fmt::Display for ReportWords {
     fn fmt(&self, f: &mut fmt::Formatter<'_>) -> fmt::Result {
+        match self.answer {
+            Some(Ok(())) => f.write_str(" answer=0")?,
+            Some(Err(errno)) => write!(f, " answer={errno}")?,
+            None => {}
+        }
         match self.layer {
             Some(Some(layer)) => write!(f, " layer={layer}")?,
             Some(None) => f.write_str(" layer=none")?,

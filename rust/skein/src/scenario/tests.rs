@@ -1,6 +1,9 @@
 //! Tests of the reader.
 use super::*;
-use skeinrabbit::{Attribute, Errno, Kind, Layer, PortRights, Rights, Scopes, Table};
+use skeinrabbit::{
+    Attribute, Entry, Errno, Kind, Layer, PortRights, QueuePart, Rights, Scopes, Slot, SlotState,
+    Table, Thread,
+};
 
 /// The only statement of a line that reads well.
 fn statement(line: &str) -> Statement {
@@ -136,6 +139,7 @@ fn a_line_may_name_the_layer_and_the_rights() {
             rights,
             entries_read: None,
             part: None,
+            slot: None,
         };
         let answer = Answer::Refused(Errno::EACCES);
         statement(line).allows(answer, Some(report))
@@ -167,6 +171,7 @@ fn a_line_may_name_how_many_entries_are_read() {
             rights: Mask::Files(Rights::NONE),
             entries_read: Some(count),
             part: None,
+            slot: None,
         };
         statement(line).allows(Answer::Done, Some(report))
     };
@@ -312,6 +317,7 @@ fn a_line_may_name_the_part_of_a_path() {
             rights: Mask::Files(Rights::NONE),
             entries_read: None,
             part: Some(part),
+            slot: None,
         };
         statement(line).allows(Answer::Done, Some(report))
     };
@@ -330,6 +336,84 @@ fn what_is_found_is_a_number() {
     let made = statement("lookup / => new");
     assert!(!made.allows(Answer::Found(0), None));
     assert!(statement("lookup / => ok").allows(Answer::Found(7), None));
+}
+
+#[test]
+fn slots_and_turns_are_read() {
+    let call = QueueCall::Post {
+        slot: Slot::new(9),
+        thread: name("main"),
+        entry: path("/docs"),
+        rights: Rights::READ_DIR,
+    };
+    let line = "post 9 main /docs read_dir => EINVAL";
+    assert_eq!(statement(line).call, Call::Queue(call));
+    assert_eq!(statement("turn").call, Call::Queue(QueueCall::Turn));
+    let slot = Slot::new(7);
+    let call = Call::Queue(QueueCall::Slot { slot });
+    assert_eq!(statement("slot 7").call, call);
+    assert_eq!(statement("fresh_queue").call, Call::Queue(QueueCall::Fresh));
+    let poke = Call::Poke {
+        poked: Poked::Queue(QueuePart::Cursor),
+        writes: vec![(0, 8)],
+    };
+    assert_eq!(statement("poke cursor 0 8").call, poke);
+}
+
+#[test]
+fn a_line_may_name_what_a_turn_answers() {
+    let slot = |answer| SlotReport {
+        slot: Slot::new(3),
+        thread: Thread::MAIN,
+        entry: Entry::ROOT,
+        rights: Rights::READ_DIR,
+        state: SlotState::Answered,
+        answer,
+    };
+    let met = |line: &str, answer| {
+        let report = Report {
+            layer: None,
+            rights: Mask::Files(Rights::NONE),
+            entries_read: Some(2),
+            part: None,
+            slot: Some(slot(answer)),
+        };
+        statement(line).allows(Answer::Served(Slot::new(3)), Some(report))
+    };
+    let line = "turn => 3 answer=ESRCH layer=none entries_read=2";
+    assert!(met(line, Err(Errno::ESRCH)) && !met(line, Ok(())));
+    assert!(met("turn => 3 answer=0", Ok(())) && !met("turn => 3 answer=0", Err(Errno::EIO)));
+    assert!(met("turn => 3", Ok(())) && met("turn => ok answer=-5", Err(Errno::EIO)));
+    assert!(
+        !met("turn => 2", Ok(())) && !met("turn => idle", Ok(())) && !met("turn => new 3", Ok(()))
+    );
+    let read = statement("turn => 3 entries_read=2 answer=-3").expected;
+    assert_eq!(read.unwrap().to_string(), "3 answer=ESRCH entries_read=2");
+    let idle = statement("turn => idle");
+    assert!(idle.allows(Answer::Idle, None) && !idle.allows(Answer::Done, None));
+    assert!(!statement("turn => 8").allows(Answer::Idle, None));
+    assert!(!statement("turn => idle answer=0").allows(Answer::Idle, None));
+    assert!(statement("turn").allows(Answer::Idle, None));
+}
+
+#[test]
+fn a_line_may_name_the_state_of_a_slot() {
+    let met = |line: &str, state| statement(line).allows(Answer::State(state), None);
+    for (word, state) in [
+        ("empty", SlotState::Empty),
+        ("waiting", SlotState::Waiting),
+        ("answered", SlotState::Answered),
+        ("3", SlotState::Unknown(3)),
+    ] {
+        assert!(met(&format!("slot 0 => {word}"), state), "{word}");
+        assert!(!met("slot 0 => 0", state) && !met("slot 0 => 4", state));
+        assert!(met("slot 0", state) && met("slot 0 => ok", state));
+    }
+    assert!(!met("slot 0 => waiting", SlotState::Empty));
+    assert_eq!(
+        statement("slot 0 => waiting").expected.unwrap().to_string(),
+        "waiting"
+    );
 }
 
 #[test]
@@ -388,7 +472,7 @@ fn a_target_is_a_thread() {
 #[test]
 fn pokes_stay_in_their_table() {
     let poke = Call::Poke {
-        table: Table::Threads,
+        poked: Poked::Table(Table::Threads),
         writes: vec![(31, u64::MAX)],
     };
     assert_eq!(statement("poke threads 31 0xffffffffffffffff").call, poke);
@@ -397,6 +481,10 @@ fn pokes_stay_in_their_table() {
         "poke system 4 0",
         "poke places 0 0",
         "poke pool 0",
+        "poke requests 24 0",
+        "poke states 8 0",
+        "poke answers 32 0",
+        "poke cursor 1 0",
     ] {
         assert_eq!(bad(line).len(), 1, "{line}");
     }
@@ -607,8 +695,25 @@ const MISTAKES: &[(&str, &str, &str)] = &[
     ),
     ("lookup / => 0 start=0", "`start=0`", "the end of the line"),
     ("poke names 0 256", "value 256", "bytes in names"),
-    ("poke thread 0 0", "`thread`", "a table: perhaps `threads`"),
-    ("poke places 0 0", "`places`", "a table: system, entries, "),
+    (
+        "poke thread 0 0",
+        "`thread`",
+        "a table or a part of the queue: perhaps `threads`",
+    ),
+    (
+        "poke places 0 0",
+        "`places`",
+        "a table or a part of the queue: system, entries, ",
+    ),
+    ("post 0 main root", "too few words", "`post SLOT THREAD"),
+    ("post x main root 4", "`x`", "a slot: a number"),
+    ("turn 0", "`0`", "no more than `turn`"),
+    ("turn => 8 start=0", "`start=0`", "answer=, layer="),
+    ("turn => 0 answer=x", "`x`", "0, an error's negated number"),
+    ("post 0 main root 4 => 0 answer=0", "`answer=0`", "the end"),
+    ("slot 8", "`8`", "a slot from 0 to 7"),
+    ("slot 0 => waits", "`waits`", "`idle`, a slot's state"),
+    ("fresh_queue 6", "`6`", "no more than `fresh_queue`"),
     ("set_admin main yes", "`yes`", "`on`, `off` or a number"),
     ("create_ruleset fs", "``", "rights at files"),
     ("create_ruleset hex", "`hex`", "fs=, net="),

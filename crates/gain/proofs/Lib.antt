@@ -1,0 +1,4 @@
+pub mod Stands
+pub mod Moves
+pub mod Answers
+pub mod Needless

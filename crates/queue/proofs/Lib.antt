@@ -1,0 +1,3 @@
+pub mod Seeks
+pub mod Sound
+pub mod Fair
