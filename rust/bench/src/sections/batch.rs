@@ -48,6 +48,10 @@ pub fn run(effort: Effort) {
     for input in &inputs {
         check_calls(input);
     }
+    println!(
+        "\nBatches: processor time. A program that has taken {} s is not run again.",
+        effort.batches / 1e9
+    );
     measure(effort, &inputs, Made::InEachBatch, &SIZES);
     // A million requests take the same time with it.
     measure(effort, &inputs, Made::Before, &SIZES[..2]);
