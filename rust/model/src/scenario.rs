@@ -1,5 +1,6 @@
 //! A case as a scenario file, with what the two sides answered.
 
+use crate::batch::{Asked, Batch};
 use crate::call::{Call, Reply, UNWRITTEN};
 use crate::compare::{Case, Difference, Step};
 use crate::damage::Poke;
@@ -50,7 +51,37 @@ fn step_lines(step: &Step, reference: &mut Reference) -> Vec<String> {
             )]
         }
         Step::Queue(event) => vec![event_line(event, reference)],
+        Step::Batch(batch) => batch_lines(batch, reference),
     }
+}
+
+/// The lines of a batch: each request with the model's answer, or why they are refused.
+fn batch_lines(batch: &Batch, reference: &Reference) -> Vec<String> {
+    let room = format!("# a batch with {} cells for answers", batch.answers.len());
+    let lines = match batch.asked() {
+        Ok(asked) => {
+            let asked = asked.iter();
+            asked
+                .flat_map(|asked| asked_lines(asked, reference))
+                .collect()
+        }
+        Err(refusal) => {
+            let (requests, errno) = (&batch.requests, refusal.errno());
+            vec![format!(
+                "# of requests {requests:?} => {errno:?} {refusal:?}"
+            )]
+        }
+    };
+    [room].into_iter().chain(lines).collect()
+}
+
+fn asked_lines(asked: &Asked, reference: &Reference) -> Vec<String> {
+    let (answer, [_, report @ ..]) = asked.answer(reference.model().ok());
+    let outside = asked.name_outside;
+    let outside = outside.then(|| "# the name of this request is no part of the names".to_string());
+    let line = call_line(&asked.call, answer, &report);
+    let line = format!("ask {}", line.replace("=> new ", "=> "));
+    outside.into_iter().chain([line]).collect()
 }
 
 /// The line of something that happens to the queue of the model; a post or a turn with its answer, a turn
