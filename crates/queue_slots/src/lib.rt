@@ -20,7 +20,7 @@ ghost use Rattle.queue.specs.Queue.{post as postOf, turn as turnOf};
 ghost use Rattle.slots.specs.Slots.{queueOf};
 ghost use Rattle.slots.specs.Slots.{said as saidOf};
 
-// Writes a request to a slot: the first refusal, 0 for none.
+// Writes a request to a slot: the number of the first refusal, 0 for none. 5 is EIO.
 fn put<'q, 's>(q: &'q Queue, slots: &'s mut [Slot], slot: u64, request: Request) -> u64
     ensures { λ r. ⌜ posted (replyTo r) (queueOf (now (slots .exit)) (now (q .entry) .cursor)) ≡ postOf (queueOf (now (slots .entry)) (now (q .entry) .cursor)) slot (request .thread) (request .entry) (request .rights) ⌝ }
 {
@@ -97,7 +97,7 @@ fn ask<'t>(
     )
 }
 
-// Answers the slot of the choice, which it says, and moves the cursor on.
+// Answers the slot of the choice and moves the cursor on; it says the choice, 9 for EIO.
 fn serve<'t, 'q, 's>(
     system: &'t [u64],
     entries: &'t [u64],
@@ -182,7 +182,7 @@ pub struct Turned {
     pub queue: Queue,
 }
 
-// A turn of a queue that is passed and returned by value: a caller of it needs no walk.
+// A turn of a queue that is passed and returned by value: a caller whose tables have one lifetime needs no walk.
 pub fn turn_once<'t>(
     system: &'t [u64],
     entries: &'t [u64],

@@ -27,7 +27,7 @@ unfoldable pub answersOf : List Slot → List ℕ
 answersOf [] = []
 answersOf (y ∷ ys) = y .answer .error ∷ y .answer .layer ∷ y .answer .rights ∷ y .answer .read ∷ answersOf ys
 
--- `proofs/Read`: no two lists of records are read as the same
+-- no two lists and cursors are read alike (`FairSlots`, `once`), so what is equated of this is equated of every field of every slot
 abbrev pub queueOf : List Slot → ℕ → core.Queue
 queueOf ys c = queue (requestsOf ys) (statesOf ys) (answersOf ys) c
 
