@@ -254,6 +254,21 @@ call! {
     (path.as_ptr() => *const u8, path.len() => usize)
 }
 
+call! {
+    /// Answers requests of seven cells each, whose names are parts of the bytes, with three cells each: the error number or 0, the
+    /// layer that refuses (its number + 1, or 0 for none) and its rights. Nothing is written if requests or answers are not in their form.
+    batch(tables: SharedCells, requests: &[u64], bytes: &[u8], answers: &mut [u64]),
+    skein_batch[const const const const const const const]
+    (
+        requests.as_ptr() => *const u64,
+        requests.len() => usize,
+        bytes.as_ptr() => *const u8,
+        bytes.len() => usize,
+        answers.as_mut_ptr() => *mut u64,
+        answers.len() => usize
+    )
+}
+
 /// Where the first component of a path starts that starts at or after a place. Reports its start and its length; zeros where
 /// there is none.
 pub fn component(path: &[u8], place: u64, report: &mut [u64]) -> u64 {
