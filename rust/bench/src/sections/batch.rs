@@ -2,7 +2,7 @@
 
 use crate::inputs::{self, Refer};
 use crate::landlock::{DIRECTORY, EISDIR, ENOSPC, ENOTDIR, ENOTEMPTY};
-use crate::measure::{differ, duration, line, processor_time, table, Effort};
+use crate::measure::{against, differ, line, processor_time, table, Effort};
 use crate::plain::batch::{Batch, Layers, Merged, Quick, Rules, Sorted};
 use crate::requests::{part, Requests, ANSWER_WIDTH, REQUEST_WIDTH};
 use crate::tables::Tables;
@@ -65,10 +65,15 @@ fn measure(effort: Effort, inputs: &[Input], made: Made, sizes: &[Size]) {
     table(&[
         what,
         "granted",
+        "proved core",
         "a map a layer",
+        "ratio",
         "sorted vectors",
+        "ratio",
         "a map a domain",
+        "ratio",
         "the same, quick hash",
+        "ratio",
     ]);
     for input in inputs {
         for size in sizes {
@@ -80,8 +85,12 @@ fn measure(effort: Effort, inputs: &[Input], made: Made, sizes: &[Size]) {
 /// Answers the requests, with names that are parts of the bytes.
 type Program<'a> = Box<dyn Fn(&[u64], &[u8], &mut [u64]) -> u64 + 'a>;
 
+/// The core, which makes nothing before, and the others.
 fn programs(tables: &Tables, made: Made) -> Vec<Program<'_>> {
     vec![
+        Box::new(|requests, names, answers| {
+            skeinrabbit_sys::batch(tables.shared(), requests, names, answers)
+        }),
         program::<Layers<HashMap<u64, u64>>>(tables, made),
         program::<Layers<Sorted>>(tables, made),
         program::<Merged<RandomState>>(tables, made),
@@ -124,7 +133,7 @@ fn compare(effort: Effort, input: &Input, made: Made, (words, size, batches): &S
     let granted = answers[0].chunks_exact(ANSWER_WIDTH);
     let granted = granted.filter(|answer| answer[0] == 0).count();
     let mut cells = vec![format!("{} %", 100 * granted / count)];
-    cells.extend(best.into_iter().map(duration));
+    cells.extend(against(best[0], &best[1..]));
     line(&name, &cells);
 }
 
