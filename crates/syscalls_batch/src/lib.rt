@@ -6,15 +6,42 @@ use batch_answers::answer_all;
 use batch_answers::answer_unsound;
 use batch_requests::batch_checks;
 use sound::is_sound;
+use sound_names::Indexed;
 use sound_names::names_indexed;
 use sound_names_walk::BUCKETS;
 ghost use mathlib.Core.Path.{_≡_};
-ghost use Rattle.named.specs.Named.{namedOutcome};
-ghost use Rattle.named.specs.Slices.{before, after};
-ghost use Rattle.named.specs.Batch.{requestCount, answersTo, batchNamed};
-ghost use Rattle.named.specs.Batch.{batchOf};
+ghost use lib.ListN.{replicate};
 ghost use Rattle.laws.specs.Refusals.{first};
-ghost use Rattle.named.specs.Batch.{batchChecks};
+ghost use Rattle.access.specs.Limits.{maxEntries};
+ghost use Rattle.sound_names_walk.specs.Fold.{buckets};
+ghost use Rattle.sound_names_chains.specs.Chains.{IndexedIf};
+ghost use Rattle.named.specs.Named.{namedSound, namedOutcome};
+ghost use Rattle.named.specs.Slices.{before, after};
+ghost use Rattle.named.specs.Batch.{requestCount, answersTo, batchChecks, batchOf, batchNamed};
+
+// The soundness of all seven tables. Fills an index of the names, which starts as zeros.
+fn tables_indexed(
+    system: &[u64],
+    entries: &[u64],
+    rulesets: &[u64],
+    layers: &[u64],
+    pool: &[u64],
+    threads: &[u64],
+    names: &[u8],
+    heads: &mut [u16],
+    links: &mut [u16],
+) -> Indexed
+    requires { ⌜ (now heads ≡ replicate buckets 0) × (now links ≡ replicate maxEntries 0) ⌝ }
+    ensures { λ r. ⌜ (r .sound ≡ namedSound (before system entries rulesets layers pool threads names)) × IndexedIf (r .whole) (now (entries .entry)) (now (names .entry)) (now (heads .exit)) (now (links .exit)) ⌝ }
+{
+    if !is_sound(system, entries, rulesets, layers, pool, threads) {
+        return Indexed {
+            sound: false,
+            whole: false,
+        };
+    }
+    names_indexed(entries, names, heads, links)
+}
 
 // The answers, where the batch itself is not refused.
 fn answer(
@@ -34,22 +61,17 @@ fn answer(
 {
     let mut heads = [0u16; BUCKETS];
     let mut links = [0u16; MAX_ENTRIES];
-    if !is_sound(system, entries, rulesets, layers, pool, threads) {
-        answer_unsound(
-            system,
-            entries,
-            rulesets,
-            layers,
-            pool,
-            threads,
-            names,
-            requests,
-            asked,
-            answers,
-        );
-        return;
-    }
-    let indexed = names_indexed(entries, names, &mut heads, &mut links);
+    let indexed = tables_indexed(
+        system,
+        entries,
+        rulesets,
+        layers,
+        pool,
+        threads,
+        names,
+        &mut heads,
+        &mut links,
+    );
     if !indexed.sound {
         answer_unsound(
             system,
