@@ -11,4 +11,4 @@ skein-batch-spec =
     (λ c κs. tt)
     (λ c κs. tt)
     (λ c. search needs)
-    (λ c. let b = c .before .batch .ensures in (answers _ _ (b .0) (c .number .ensures), b .1)))
+    (λ c. let b = c .before .before .before .batch .ensures in (answers _ _ (b .0) (c .number .ensures), b .1)))
