@@ -19,8 +19,8 @@
  * Any cells and any numbers are answered. A call is defined if
  * - every pointer is valid for what it points to (a whole struct skein_tables or skein_queue, `size` bytes, `count` requests or
  *   verdicts), aligned for its type and not NULL.
- *   Only an attribute, a name or a path may be NULL, and counts as no bytes then, whatever its size, and a report, and what there
- *   are none of;
+ *   Only an attribute, a name, a path or the names of a batch may be NULL, and count as no bytes then, whatever their size; and a
+ *   report, and the requests and verdicts of a batch without requests;
  * - none of these overlap: the tables, a queue, the bytes of an attribute, a name or a path, a report, the requests, names and
  *   verdicts of a batch, and the two places where skeinrabbit_layer_rules and skeinrabbit_component report;
  * - 96 KiB of stack are left, for skeinrabbit_batch 640 KiB (docs/PERFORMANCE.md), which a thread or coroutine with a small stack
