@@ -2,7 +2,8 @@
  * Skeinrabbit: a file broker that answers as Linux's Landlock would.
  *
  * All state lies in one `struct skein_tables`, which the caller owns. Make it fresh once, then pass it to every call. Nothing is
- * allocated, and a refused call changes no cell. Requests that are to be answered in turn wait in a `struct skein_queue`.
+ * allocated, and a refused call changes no cell. Requests that are to be answered in turn wait in a `struct skein_queue`; many
+ * that are to be answered at once are an array of `struct skein_request`.
  *
  * Every call answers a number of zero or more (a new entry, ruleset or thread where one is made, else 0), or a negative error
  * number. Each comment below lists a call's refusals in the order in which they are tested. Before all of them, every call but
@@ -16,12 +17,14 @@
  * directory has. Names and paths are bytes with a length and need no closing zero.
  *
  * Any cells and any numbers are answered. A call is defined if
- * - every pointer is valid for what it points to (a whole struct skein_tables or skein_queue, `size` bytes), aligned for its type
- *   and not NULL.
- *   Only an attribute, a name or a path may be NULL, and counts as no bytes then, whatever its size, and a report;
- * - none of these overlap: the tables, a queue, the bytes of an attribute, a name or a path, a report, and the two places where
- *   skeinrabbit_layer_rules and skeinrabbit_component report;
- * - 96 KiB of stack are left (docs/PERFORMANCE.md), which a thread or coroutine with a small stack may not have;
+ * - every pointer is valid for what it points to (a whole struct skein_tables or skein_queue, `size` bytes, `count` requests or
+ *   verdicts), aligned for its type and not NULL.
+ *   Only an attribute, a name, a path or the names of a batch may be NULL, and count as no bytes then, whatever their size; and a
+ *   report, and the requests and verdicts of a batch without requests;
+ * - none of these overlap: the tables, a queue, the bytes of an attribute, a name or a path, a report, the requests, names and
+ *   verdicts of a batch, and the two places where skeinrabbit_layer_rules and skeinrabbit_component report;
+ * - 96 KiB of stack are left, for skeinrabbit_batch 640 KiB (docs/PERFORMANCE.md), which a thread or coroutine with a small stack
+ *   may not have;
  * - no other call on the same tables or the same queue runs meanwhile, from a thread or from a signal handler. Calls on others may;
  * - the program is for x86-64 Linux, as the archive is.
  *
@@ -73,6 +76,10 @@ extern "C" {
 #define SKEIN_REQUEST_CELLS 3
 #define SKEIN_ANSWER_CELLS 4
 
+/* Cells of a batch's request and of its verdict. */
+#define SKEIN_BATCH_REQUEST_CELLS 7
+#define SKEIN_VERDICT_CELLS 3
+
 /* The seven tables. A free row is zero in every cell. */
 struct skein_tables {
 	/* level, next object number, layers used, pool rules used */
@@ -118,6 +125,47 @@ struct skein_queue {
 
 /* What a turn answers if no slot waits. */
 #define SKEIN_IDLE SKEIN_MAX_SLOTS
+
+/* Sorts of a batch's request. */
+#define SKEIN_REQUEST_ACCESS 1
+#define SKEIN_REQUEST_PORT 2
+#define SKEIN_REQUEST_LINK 3
+#define SKEIN_REQUEST_RENAME 4
+#define SKEIN_REQUEST_EXCHANGE 5
+
+/*
+ * A request of a batch. What a sort does not use is not read. It is made by skeinrabbit_ask_access, skeinrabbit_ask_port,
+ * skeinrabbit_ask_link, skeinrabbit_ask_rename or skeinrabbit_ask_exchange.
+ */
+struct skein_request {
+	uint64_t sort;
+	uint64_t thread;
+	uint64_t first;	 /* access: the entry; port: the port; else the source */
+	uint64_t second; /* access and port: the rights; else the directory */
+	uint64_t third;	 /* exchange: the other entry */
+	/* link and rename: where the name starts in the names of the batch, and how many bytes it has */
+	uint64_t name_start;
+	uint64_t name_length;
+};
+
+/* What a request of a batch is answered. */
+struct skein_verdict {
+	uint64_t error;	 /* the error number (SKEIN_EACCES, not negated), or 0 */
+	uint64_t layer;	 /* as in a struct skein_report */
+	uint64_t rights; /* as there */
+};
+
+/* Both are cells in a row: an array of them is what skein_batch takes. A compiler that lays them out otherwise refuses these. */
+typedef char skein_request_is_cells[sizeof(struct skein_request) == SKEIN_BATCH_REQUEST_CELLS * sizeof(uint64_t) &&
+						    offsetof(struct skein_request, name_length) ==
+							    (SKEIN_BATCH_REQUEST_CELLS - 1) * sizeof(uint64_t) ?
+					    1 :
+					    -1];
+typedef char skein_verdict_is_cells[sizeof(struct skein_verdict) == SKEIN_VERDICT_CELLS * sizeof(uint64_t) &&
+						    offsetof(struct skein_verdict, rights) ==
+							    (SKEIN_VERDICT_CELLS - 1) * sizeof(uint64_t) ?
+					    1 :
+					    -1];
 
 /* File system rights, with Landlock's names and bits. */
 #define SKEIN_FS_EXECUTE (UINT64_C(1) << 0)
@@ -230,11 +278,13 @@ struct skein_report {
  * The functions of the archive: each table as pointer and number of cells, then the arguments. The result is the success number,
  * or 2^64 minus the error number. Prefer the inline functions further down.
  *
- * The calls that only ask, and skein_turn, take tables that are const; skein_component and skein_post take none. A `report` may have
- * any number of cells: those that fit are written, and cells past them stay as they were. The parts of a queue may have any length, too;
- * `cursor` is one cell, and a call on a queue with a part of a wrong length answers EIO.
+ * The calls that only ask, skein_turn and skein_batch take tables that are const; skein_component and skein_post take none. A `report`
+ * may have any number of cells: those that fit are written, and cells past them stay as they were. The parts of a queue may have any
+ * length, too; `cursor` is one cell, and a call on a queue with a part of a wrong length answers EIO. So may the lists of a batch: one
+ * whose requests end within a request, or with fewer than 3 cells for the verdict of each, is EINVAL, and cells past the last verdict
+ * stay.
  * Each pointer must be aligned (cells to 8 bytes) and valid for its length, and not NULL even if the length is 0. The tables, the
- * parts of a queue, the bytes of an attribute, a name or a path, a report and the report `part` must not overlap.
+ * parts of a queue, the lists of a batch, the bytes of an attribute, a name or a path, a report and the report `part` must not overlap.
  */
 #define SKEIN_TABLE_PARAMETERS(cell, byte) \
 	cell *system_cells, size_t system_length, cell *entries, size_t entries_length, cell *rulesets, \
@@ -276,6 +326,9 @@ extern uint64_t skein_post(uint64_t *requests, size_t requests_length, uint64_t 
 			   size_t answers_length, uint64_t *cursor, uint64_t slot, uint64_t thread, uint64_t entry, uint64_t rights);
 extern uint64_t skein_turn(SKEIN_CONST_TABLES, const uint64_t *requests, size_t requests_length, uint64_t *states, size_t states_length,
 			   uint64_t *answers, size_t answers_length, uint64_t *cursor);
+
+extern uint64_t skein_batch(SKEIN_CONST_TABLES, const uint64_t *requests, size_t requests_length, const uint8_t *request_names,
+			    size_t request_names_length, uint64_t *verdicts, size_t verdicts_length);
 
 /* The parts of a queue as the arguments of an archive's function. */
 #define SKEIN_QUEUE_ARGUMENTS(q) \
@@ -623,6 +676,63 @@ static inline int64_t skeinrabbit_slot_answer(const struct skein_queue *q, uint6
 	if (error > SKEIN_MAX_ERROR)
 		error = SKEIN_EIO;
 	return skeinrabbit_reported(0 - error, answer + 1, report);
+}
+
+/* Requests of a batch: what skeinrabbit_access, skeinrabbit_port, skeinrabbit_link, skeinrabbit_rename and skeinrabbit_exchange ask. */
+static inline struct skein_request skeinrabbit_ask_access(uint64_t thread, uint64_t entry, uint64_t rights)
+{
+	const struct skein_request request = { SKEIN_REQUEST_ACCESS, thread, entry, rights, 0, 0, 0 };
+
+	return request;
+}
+
+static inline struct skein_request skeinrabbit_ask_port(uint64_t thread, uint64_t port, uint64_t rights)
+{
+	const struct skein_request request = { SKEIN_REQUEST_PORT, thread, port, rights, 0, 0, 0 };
+
+	return request;
+}
+
+/* The name is `name_length` bytes of the names of the batch, from `name_start` on. */
+static inline struct skein_request skeinrabbit_ask_link(uint64_t thread, uint64_t source, uint64_t directory, uint64_t name_start,
+							uint64_t name_length)
+{
+	const struct skein_request request = { SKEIN_REQUEST_LINK, thread, source, directory, 0, name_start, name_length };
+
+	return request;
+}
+
+static inline struct skein_request skeinrabbit_ask_rename(uint64_t thread, uint64_t source, uint64_t directory, uint64_t name_start,
+							  uint64_t name_length)
+{
+	const struct skein_request request = { SKEIN_REQUEST_RENAME, thread, source, directory, 0, name_start, name_length };
+
+	return request;
+}
+
+static inline struct skein_request skeinrabbit_ask_exchange(uint64_t thread, uint64_t source, uint64_t directory, uint64_t entry)
+{
+	const struct skein_request request = { SKEIN_REQUEST_EXCHANGE, thread, source, directory, entry, 0, 0 };
+
+	return request;
+}
+
+/*
+ * Answers `count` requests at once, each with a verdict: the refusal of its call on these tables, up to and with EACCES and EXDEV, else
+ * 0. What a call tests after these (ENOSPC of a link; ENOTDIR, EISDIR and ENOTEMPTY of a rename) is not tested. Nothing changes, and no
+ * request sees what another one would change. `names` are `size` bytes that the names of requests are parts of; a part that does not lie
+ * in them is a bad name, EINVAL. If the tables are not sound every verdict is SKEIN_EIO.
+ * EINVAL a request of another sort, and then no verdict is written; else 0. The tables are tested once for all requests.
+ */
+static inline int64_t skeinrabbit_batch(const struct skein_tables *t, const struct skein_request *requests, size_t count,
+					const void *names, size_t size, struct skein_verdict *verdicts)
+{
+	if (count == 0)
+		return 0;
+	return skeinrabbit_answer(skein_batch(SKEIN_TABLE_ARGUMENTS(t), (const uint64_t *)(const void *)requests,
+					      count * SKEIN_BATCH_REQUEST_CELLS, skeinrabbit_bytes(names, size),
+					      skeinrabbit_length(names, size), (uint64_t *)(void *)verdicts,
+					      count * SKEIN_VERDICT_CELLS));
 }
 
 #ifdef __cplusplus

@@ -394,6 +394,67 @@ static void damaged_queue(struct skein_tables *t)
 	expect("turn, none waits", skeinrabbit_turn(t, &q), SKEIN_IDLE);
 }
 
+/* Compares a verdict. */
+static void expect_verdict(const char *request, const struct skein_verdict *verdict, uint64_t error, uint64_t layer, uint64_t rights)
+{
+	expect(request, (int64_t)verdict->error, (int64_t)error);
+	expect("its layer", (int64_t)verdict->layer, (int64_t)layer);
+	expect("its rights", (int64_t)verdict->rights, (int64_t)rights);
+}
+
+/* Many requests at once, on the worked tree with a layer that lets files of /cal be read, and none written. */
+static void batch(struct skein_tables *t)
+{
+	static const char request_names[] = "tablefeed";
+	static struct skein_tables before;
+	struct skein_request requests[7];
+	struct skein_verdict verdicts[7];
+	uint64_t cells[8] = { 7, 7, 7, 7, 7, 7, 7, 7 };
+	const uint64_t *const asked = (const uint64_t *)(const void *)requests;
+
+	worked_tree(t, WORKED & ~SKEIN_FS_WRITE_FILE);
+	before = *t;
+	requests[0] = skeinrabbit_ask_access(0, 3, SKEIN_FS_READ_FILE);
+	requests[1] = skeinrabbit_ask_access(0, 3, SKEIN_FS_READ_FILE | SKEIN_FS_WRITE_FILE);
+	requests[2] = skeinrabbit_ask_port(1, 80, SKEIN_NET_BIND_TCP);
+	requests[3] = skeinrabbit_ask_link(0, 4, 1, 0, 5);
+	requests[4] = skeinrabbit_ask_rename(0, 3, 2, 0, 5);
+	requests[5] = skeinrabbit_ask_rename(0, 4, 1, 5, 5);
+	requests[6] = skeinrabbit_ask_exchange(0, 3, 2, 4);
+	expect("batch", skeinrabbit_batch(t, requests, 7, request_names, 9, verdicts), 0);
+	expect_verdict("access", &verdicts[0], 0, 0, 0);
+	expect_verdict("access, denied", &verdicts[1], SKEIN_EACCES, 1, SKEIN_FS_WRITE_FILE);
+	expect_verdict("port, not live", &verdicts[2], SKEIN_ESRCH, 0, 0);
+	expect_verdict("link, taken", &verdicts[3], SKEIN_EEXIST, 0, 0);
+	expect_verdict("rename, widened", &verdicts[4], SKEIN_EXDEV, 1, SKEIN_FS_WRITE_FILE);
+	expect_verdict("rename, name outside", &verdicts[5], SKEIN_EINVAL, 0, 0);
+	expect_verdict("exchange, widened", &verdicts[6], SKEIN_EXDEV, 1, SKEIN_FS_WRITE_FILE);
+	expect("batch, nothing", skeinrabbit_batch(t, NULL, 0, NULL, 0, NULL), 0);
+	expect("batch, no names", skeinrabbit_batch(t, requests + 5, 1, NULL, 9, verdicts), 0);
+	expect_verdict("rename, no names", &verdicts[0], SKEIN_EINVAL, 0, 0);
+	expect("batch, answers past the last",
+	       skeinrabbit_answer(skein_batch(SKEIN_TABLE_ARGUMENTS(t), asked, 14, (const uint8_t *)request_names, 9, cells, 8)), 0);
+	expect("error", (int64_t)cells[3], SKEIN_EACCES);
+	expect("cell past the answers", (int64_t)cells[6], 7);
+	cells[0] = 7;
+	expect("batch, too little room",
+	       skeinrabbit_answer(skein_batch(SKEIN_TABLE_ARGUMENTS(t), asked, 14, (const uint8_t *)request_names, 9, cells, 5)),
+	       -SKEIN_EINVAL);
+	expect("batch, ends within a request",
+	       skeinrabbit_answer(skein_batch(SKEIN_TABLE_ARGUMENTS(t), asked, 13, (const uint8_t *)request_names, 9, cells, 8)),
+	       -SKEIN_EINVAL);
+	requests[1].sort = SKEIN_REQUEST_EXCHANGE + 1;
+	expect("batch, another sort", skeinrabbit_batch(t, requests, 2, request_names, 9, verdicts), -SKEIN_EINVAL);
+	expect_verdict("rename, no names, still", &verdicts[0], SKEIN_EINVAL, 0, 0);
+	expect("cells of a refused batch", (int64_t)cells[0], 7);
+	expect("tables after batches", memcmp(t, &before, sizeof(before)), 0);
+	requests[1].sort = SKEIN_REQUEST_ACCESS;
+	t->system[0] = SKEIN_MAX_LEVEL + 1;
+	expect("batch, damaged", skeinrabbit_batch(t, requests, 2, request_names, 9, verdicts), 0);
+	expect_verdict("access, damaged", &verdicts[0], SKEIN_EIO, 0, 0);
+	expect_verdict("access, damaged", &verdicts[1], SKEIN_EIO, 0, 0);
+}
+
 /* The limits that the header names, on fresh tables. */
 static void limits(struct skein_tables *t)
 {
@@ -445,6 +506,7 @@ int main(void)
 	entries_read(t);
 	queue(t);
 	damaged_queue(t);
+	batch(t);
 	limits(t);
 	return differences == 0 ? 0 : 1;
 }

@@ -33,6 +33,7 @@ ghost use Rattle.names.specs.Paths.{pathChecks, found, component};
 ghost use Rattle.named.specs.Named.{namedOutcome, namedCall, lift, liftCount, liftPart, freshenedNamed};
 ghost use Rattle.named.specs.Slices.{before, after};
 ghost use Rattle.named.specs.Queue.{answerOf, turnNamed};
+ghost use Rattle.named.specs.Batch.{batchOf, batchNamed};
 ghost use Rattle.named.specs.Tree.{createNamed, removeNamed, linkNamed, renameNamed, exchangeNamed};
 ghost use Rattle.path.specs.Span.{shownStart};
 ghost use Rattle.capi.specs.Codes.{Answers, Tells, TellsAccess, Posts, spanFrom};
@@ -723,4 +724,35 @@ pub extern "C" fn skein_turn(
     let said = round.said;
     *cursor = round.cursor;
     number(served_reply(said))
+}
+
+// A request is 7 cells, an answer 3; `asked` has the names of link and rename requests.
+#[no_mangle]
+pub extern "C" fn skein_batch(
+    system: &[u64],
+    entries: &[u64],
+    rulesets: &[u64],
+    layers: &[u64],
+    pool: &[u64],
+    threads: &[u64],
+    names: &[u8],
+    requests: &[u64],
+    asked: &[u8],
+    answers: &mut [u64],
+) -> u64
+    ensures answer { λ r. ⌜ Answers r (after system entries rulesets layers pool threads names) (batchNamed (before system entries rulesets layers pool threads names) (now (requests .entry)) (now (asked .entry)) (now (answers .entry))) ⌝ }
+    ensures answers { λ r. ⌜ now (answers .exit) ≡ batchOf (before system entries rulesets layers pool threads names) (now (requests .entry)) (now (asked .entry)) (now (answers .entry)) .answers ⌝ }
+{
+    number(syscalls_batch::batch(
+        system,
+        entries,
+        rulesets,
+        layers,
+        pool,
+        threads,
+        names,
+        requests,
+        asked,
+        answers,
+    ))
 }

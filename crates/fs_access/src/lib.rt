@@ -13,7 +13,7 @@ ghost use Rattle.tables.specs.Outcome.{outcome, answer};
 ghost use Rattle.judge.specs.Blame.{namingEntry};
 ghost use Rattle.fs_access.specs.Access.{accessNames, accessMask, accessChecks, accessReads};
 
-fn access_names(entries: &[u64], threads: &[u64], t: u64, e: u64) -> u64
+pub fn access_names(entries: &[u64], threads: &[u64], t: u64, e: u64) -> u64
     ensures { λ r. ⌜ r ≡ first (accessNames (now (entries .entry)) (now (threads .entry)) t e) ⌝ }
 {
     if !thread_live(threads, t) {
@@ -25,7 +25,7 @@ fn access_names(entries: &[u64], threads: &[u64], t: u64, e: u64) -> u64
     0
 }
 
-fn access_mask(entries: &[u64], e: u64, asked: Rights) -> u64
+pub fn access_mask(entries: &[u64], e: u64, asked: Rights) -> u64
     ensures { λ r. ⌜ r ≡ first (accessMask (now (entries .entry)) e (asked .0)) ⌝ }
 {
     if asked.is_empty() {

@@ -78,7 +78,26 @@ fn crossed_against(layers: &[u64], pool: &[u64], l: u64, m: Move, d1: Rights, d2
     escaping_against(layers, pool, l, m, d1, d2)
 }
 
-// What the layer holds against a move, by one climb from each directory.
+// What the layer holds against a move, by what it denies at the source's directory and at the target directory, at least of the rights that
+// matter there.
+pub fn held_against(
+    layers: &[u64],
+    pool: &[u64],
+    l: u64,
+    m: Move,
+    d1: Rights,
+    d2: Rights,
+) -> Against
+    ensures needs { λ r. ⌜ r .denied .0 ≡ needsAgainst m (d1 .0) (d2 .0) ⌝ }
+    ensures crossed { λ r. ⌜ r .crossed .0 ≡ crossedAgainst m (d1 .0) (d2 .0) (rightsOn (layerAt (now (layers .entry)) (now (pool .entry)) l .rules) pathRule (m .object)) (rightsOn (layerAt (now (layers .entry)) (now (pool .entry)) l .rules) pathRule (m .other)) ⌝ }
+{
+    Against {
+        denied: needs_against(m, d1, d2),
+        crossed: crossed_against(layers, pool, l, m, d1, d2),
+    }
+}
+
+// The same by one climb from each directory.
 pub fn layer_against(entries: &[u64], layers: &[u64], pool: &[u64], l: u64, m: Move) -> Against
     ensures needs { λ r. ⌜ r .denied .0 ≡ deniedNeeds (now (entries .entry)) (layerAt (now (layers .entry)) (now (pool .entry)) l) m ⌝ }
     ensures crossed { λ r. ⌜ r .crossed .0 ≡ crossed (now (entries .entry)) (layerAt (now (layers .entry)) (now (pool .entry)) l) m ⌝ }
@@ -86,8 +105,5 @@ pub fn layer_against(entries: &[u64], layers: &[u64], pool: &[u64], l: u64, m: M
     let wide = compared_rights(m);
     let d1 = layer_climb(entries, layers, pool, l, m.source, m.leave.join(wide)).missing;
     let d2 = layer_climb(entries, layers, pool, l, m.target, m.enter.join(wide)).missing;
-    Against {
-        denied: needs_against(m, d1, d2),
-        crossed: crossed_against(layers, pool, l, m, d1, d2),
-    }
+    held_against(layers, pool, l, m, d1, d2)
 }

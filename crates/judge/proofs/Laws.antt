@@ -12,7 +12,7 @@ use Rattle.laws.proofs.Bools.{and-l, and-r, both, or-cases, or-left, or-right, 
 use Rattle.laws.proofs.Tests.{any-find, any-none}
 use Rattle.access.specs.Limits.{maxEntries}
 use Rattle.access.specs.Rights.{has, join, meet, without, REFER}
-use Rattle.access.proofs.Laws.{has-join, has-meet, has-without, has-only, has-none, some-bit}
+use Rattle.access.proofs.Laws.{has-join, has-meet, has-without, has-only, has-none, some-bit, ext-has}
 use Rattle.tables.specs.Tables.{parent, live, portRule}
 use Rattle.tables.specs.Layers.{Layer, layerAt}
 use Rattle.sound_tree.specs.Tree.{reaches}
@@ -84,14 +84,18 @@ module _ (es : List ℕ) (L : Layer) where
   unfolding granted
   granted-way e i h = grants-way es (L .rules) i maxEntries e h
 
+  -- "the rights of its rule on that entry's object, joined with what it grants the parent", where the climb ends
+  pub granted-on : (e : ℕ) → reaches es maxEntries e ≡ true → (e ≡ 0 → ⊥) → granted es L e ≡ join (ownRights es (L .rules) e) (granted es L (parent es e))
+  unfolding granted
+  granted-on e r d =
+      let ends : reaches es (pred maxEntries) (parent es e) ≡ true = sym (reaches-up es maxEntries e d (λ z. omega arith)) ∙ r in
+      grants-up es (L .rules) maxEntries e d (λ z. omega arith)
+      ∙ ap (join (ownRights es (L .rules) e)) (sym (grants-enough es (L .rules) (pred maxEntries) maxEntries (parent es e) (omega arith) ends))
+
   module _ (next : ℕ) (Z : Tree es next) (e : ℕ) (l : live es e ≡ true) where
-    -- "the rights of its rule on that entry's object, joined with what it grants the parent"
+    -- and so for any live entry
     pub granted-up : (e ≡ 0 → ⊥) → granted es L e ≡ join (ownRights es (L .rules) e) (granted es L (parent es e))
-    unfolding granted
-    granted-up d =
-        let ends : reaches es (pred maxEntries) (parent es e) ≡ true = sym (reaches-up es maxEntries e d (λ z. omega arith)) ∙ Z .tops e l in
-        grants-up es (L .rules) maxEntries e d (λ z. omega arith)
-        ∙ ap (join (ownRights es (L .rules) e)) (sym (grants-enough es (L .rules) (pred maxEntries) maxEntries (parent es e) (omega arith) ends))
+    granted-up d = granted-on e (Z .tops e l) d
 
     -- and the way back
     pub way-granted : (k i : ℕ) → has (ownRights es (L .rules) (up es k e)) i ≡ true → has (granted es L e) i ≡ true
@@ -120,6 +124,13 @@ module _ (es : List ℕ) (L : Layer) (e : ℕ) where
   pub has-missing : (m i : ℕ) → has (missing es L e m) i ≡ (has m i && (has (handled L) i && not (has (granted es L e) i)))
   unfolding missing
   has-missing m i = has-left m (handled L) (granted es L e) i
+
+  -- of the rights m, those that the layer denies
+  pub missing-denied : (m i : ℕ) → has (missing es L e m) i ≡ (has m i && has (denied es L e) i)
+  missing-denied m i = has-missing m i ∙ ap (λ (b : Bool). has m i && b) (sym (has-denied i))
+
+  pub meet-denied : (m : ℕ) → meet m (denied es L e) ≡ missing es L e m
+  meet-denied m = ext-has (meet m (denied es L e)) (missing es L e m) (λ i. has-meet m (denied es L e) i ∙ sym (missing-denied m i))
 
 pub has-port-missing : (L : Layer) (port m i : ℕ) → has (portMissing L port m) i ≡ (has m i && (has (L .net) i && not (has (rightsOn (L .rules) portRule port) i)))
 unfolding portMissing

@@ -70,7 +70,7 @@ pub struct Climbed {
 }
 
 // The rights that a file system mask handles: REFER unasked, unless it is empty.
-fn handled_by(fs: Rights) -> Rights
+pub fn handled_by(fs: Rights) -> Rights
     ensures { λ r. ⌜ r .0 ≡ handledBy (fs .0) ⌝ }
 {
     if fs.is_empty() {

@@ -1,6 +1,7 @@
 // What the benchmark in rust/bench measures, exported for it: the rule scan, the climb and the verdicts.
 use access::limits::MAX_ENTRIES;
 use access::rights::Rights;
+use fs::table::needs_table;
 use tables::rows::PATH_RULE;
 use tree::Replaced;
 use verdict::move_denial;
@@ -62,6 +63,7 @@ pub extern "C" fn skein_measure_rename(
 ) -> u64
     ensures { λ r. ⌜ r ≡ first (verdict (now (entries .entry)) (now (layers .entry)) (now (pool .entry)) (domain (now (layers .entry)) (now (threads .entry)) t) (renameMove (now (entries .entry)) s d None)) ⌝ }
 {
-    let m = tree_moves::rename_move(entries, s, d, Replaced::None);
+    let needs = needs_table();
+    let m = tree_moves::rename_move(&needs, entries, s, d, Replaced::None);
     move_denial(entries, layers, pool, threads, t, m).refusal()
 }

@@ -42,10 +42,10 @@ use Rattle.names.proofs.Facts.{Names, Name, names, names-of}
 use Rattle.names.proofs.Bearer.{bearer-cases}
 use Rattle.named.specs.Named.{Named, namedSound, NamedOutcome}
 use Rattle.named.specs.Tree.{createTarget, newName, createBefore, newNames, createNamedChecks, createNamed, removeNamed, linkTarget, linkBefore, linkNamedChecks, linkNamed, replacedBy, renameBefore, renameNamedChecks, renamedNames, renameNamed, swappedNames, exchangeNamed}
-use Rattle.named.specs.Calls.{leavesTree, NamedCall, lifted, create, remove, link, rename, exchange, lookup, turn, outcomeNamed, afterNamed, allNamed}
+use Rattle.named.specs.Calls.{leavesTree, NamedCall, lifted, create, remove, link, rename, exchange, lookup, turn, batch, outcomeNamed, afterNamed, allNamed}
 use Rattle.named.proofs.Made.{core-sound, names-sound, Way, wayNamed, way-cases, Made}
 use Rattle.named.proofs.Listed.{createWay, create-name, removeWay, linkWay, link-name, renameWay, rename-name, exchangeWay}
-use Rattle.named.proofs.Translate.{translate, follows, lifted-outcome, lookup-left, turn-left}
+use Rattle.named.proofs.Translate.{translate, follows, lifted-outcome, lookup-left, turn-left, batch-left}
 use Rattle.named.proofs.Renamed.{names-filled, names-cleared, names-moved, names-replaced, names-swapped}
 
 -- the names of N are sound
@@ -179,6 +179,7 @@ names-kept N (rename t s d n) h = right-way N (renameWay N t s d n) h (right-ren
 names-kept N (exchange t s d x) h = right-way N (exchangeWay N t s d x) h (right-exchange N h t s d x)
 names-kept N (lookup p) h = rw (lookup-left N p) (names-sound N h)
 names-kept N (turn Q) h = rw (turn-left N Q) (names-sound N h)
+names-kept N (batch rs ns xs) h = rw (batch-left N rs ns xs) (names-sound N h)
 
 -- the six tables by document 01's theorem, through the translation
 pub kept : (N : Named) (c : NamedCall) → namedSound N ≡ true → namedSound (afterNamed N c) ≡ true

@@ -3,14 +3,15 @@ use mathlib.Core.Path.{_≡_, refl, sym, ap, subst, _∙_}
 use mathlib.Core.Bool.{Bool, true, false, not, _&&_}
 use mathlib.Core.List.{List, [], _∷_}
 use mathlib.Core.Logic.{_⊎_, inl, inr}
-use Prim.Native.Nat.{ℕ}
+use Prim.Native.Nat.{ℕ, _*_}
 use native.Mathlib.Omega.{arith}
-use lib.Dec.{ltb}
+use lib.Dec.{eqb, ltb}
 use lib.ListN.{length}
+use Rattle.laws.specs.Tests.{allBelow}
 use Rattle.laws.specs.Refusals.{Check, _⇒_, first}
 use Rattle.laws.proofs.Bools.{split, either}
 use Rattle.laws.proofs.Refusals.{join-stop, join-go}
-use Rattle.access.specs.Errno.{ENOENT, EIO, EACCES, EXDEV, ENOTDIR, ENAMETOOLONG}
+use Rattle.access.specs.Errno.{ENOENT, EIO, EACCES, EXDEV, ENOTDIR, EINVAL, ENAMETOOLONG}
 use Rattle.access.specs.declared.errno.Errno.{Errno}
 use Rattle.access.specs.declared.errno.Reply.{Reply}
 use Rattle.access.specs.declared.errno.Reply.the-variants.{Done, Refused, Denied}
@@ -29,11 +30,25 @@ use Rattle.queue.proofs.Sound.{turn-cases}
 use Rattle.named.specs.Named.{Named, namedSound, NamedOutcome}
 use Rattle.named.specs.Tree.{createNamedChecks, createNamed, removeNamed, linkNamedChecks, linkNamed, renameNamedChecks, renameNamed, exchangeNamed}
 use Rattle.named.specs.Queue.{answerOf, turnNamed}
-use Rattle.named.specs.Calls.{leavesTree, NamedCall, lifted, create, remove, link, rename, exchange, lookup, turn, outcomeNamed, replyNamed, onCore}
+use Rattle.named.specs.Batch.{requestWidth, askedCell, knownSort, batchAnswerWidth, answersTo, requestCount, batchChecks, Batched, batched, batchOf, batchNamed}
+use Rattle.named.specs.Calls.{leavesTree, NamedCall, lifted, create, remove, link, rename, exchange, lookup, turn, batch, outcomeNamed, replyNamed, onCore}
 use Rattle.named.specs.Layer.{faulty, refusalsNamed, PassedOn, LayerNamed}
 use Rattle.named.proofs.Made.{lift-unnamed, omits, omits-first, named-cases, NoLayer, way-number, way-told}
 use Rattle.named.proofs.Listed.{createWay, removeWay, linkWay, renameWay, exchangeWay}
-use Rattle.named.proofs.Translate.{OfTree, Seen, is-lifted, of-tree, is-lookup, is-turn, seen, lifted-is, lifted-outcome}
+use Rattle.named.proofs.Translate.{OfTree, Seen, is-lifted, of-tree, is-lookup, is-turn, is-batch, seen, lifted-is, lifted-outcome}
+
+-- ---- a batch is refused with EINVAL, or it is done
+einval-only : (rs xs : List ℕ) → (first (batchChecks rs xs) ≡ 0) ⊎ (first (batchChecks rs xs) ≡ EINVAL)
+unfolding batchChecks first
+einval-only rs xs = split (not (eqb (length rs) (requestWidth * requestCount rs))) (λ a. inr (rw a refl))
+    (λ a. split (not (allBelow (λ i. knownSort (askedCell rs i 0)) (requestCount rs))) (λ b. inr (rw (a, b) refl))
+    (λ b. split (ltb (length xs) (batchAnswerWidth * requestCount rs)) (λ c. inr (rw (a, b, c) refl)) (λ c. inl (rw (a, b, c) refl))))
+
+batch-cases : (N : Named) (rs ns xs : List ℕ) (P : Batched → Type 0)
+    → (first (batchChecks rs xs) ≡ 0 → P (batched (Done 0) (answersTo N rs ns xs (requestCount rs))))
+    → (first (batchChecks rs xs) ≡ EINVAL → P (batched (Refused (record { 0 = EINVAL })) xs)) → P (batchOf N rs ns xs)
+unfolding batchOf
+batch-cases N rs ns xs P d r = either (einval-only rs xs) (λ z. rw z (d z)) (λ z. rw z (r z))
 
 -- ---- the replies of a lookup
 module _ (P : Reply → Type 0) (d : (e : ℕ) → P (Done e)) (o : P (refuse ENOTDIR)) (l : P (refuse ENAMETOOLONG)) (u : P (refuse ENOENT)) (es ns : List ℕ) (close : Bool) where
@@ -78,7 +93,7 @@ module _ (N : Named) where
       (λ s. passes b (O .comes-to) (ap replyOf (O .is-named) ∙ s ∙ ap (λ (o : Outcome). o .reply) (sym (O .is-core))))
       (λ P. no-layer (subst NoLayer (ap replyOf (sym (O .is-named))) P))
 
-  -- a reply of a lookup or a turn
+  -- a reply of a lookup, a turn or a batch
   abbrev Looked : Reply → Type 0
   Looked r = ((n : ℕ) × (r ≡ Done n)) ⊎ NoLayer r
 
@@ -96,11 +111,17 @@ module _ (N : Named) where
   served Q = turn-cases (answerOf N) Q (λ (p : Turned). Looked (servedReply (p .said)))
       (λ s l. inl (_, refl)) (λ s l. inl (slots, refl)) (λ s. inr (no-layer-of EIO (λ z. omega arith) (λ z. omega arith)))
 
+  batch-told : (rs ns xs : List ℕ) → Looked (replyNamed N (batch rs ns xs))
+  unfolding outcomeNamed batchNamed
+  batch-told rs ns xs = batch-cases N rs ns xs (λ (p : Batched). Looked (p .reply))
+      (λ z. inl (0, refl)) (λ z. inr (no-layer-of EINVAL (λ z. omega arith) (λ z. omega arith)))
+
   told-seen : {c : NamedCall} → Seen N c → Told N c
   told-seen (is-lifted b q) = told-lifted b q
   told-seen {c} (of-tree b O) = told-tree c b O
   told-seen (is-lookup p) = either (looked p) (λ d. succeeds (d .0) (d .1)) no-layer
   told-seen (is-turn Q) = either (served Q) (λ d. succeeds (d .0) (d .1)) no-layer
+  told-seen (is-batch rs ns xs) = either (batch-told rs ns xs) (λ d. succeeds (d .0) (d .1)) no-layer
 
 -- ---- the number is that of the first refusal
 module _ (N : Named) where
@@ -137,6 +158,10 @@ module _ (N : Named) where
       let told : Bool → ℕ = λ b. first (not b ⇒ EIO ∷ []) in
       turn-cases (answerOf N) Q (λ (p : Turned). errorOf (servedReply (p .said)) ≡ full (turn Q)) (λ s l. ap told (sym s)) (λ s l. ap told (sym s)) (λ s. ap told (sym s))
 
+  number-batch : (rs ns xs : List ℕ) → errorOf (replyNamed N (batch rs ns xs)) ≡ full (batch rs ns xs)
+  unfolding outcomeNamed batchNamed first faulty refusalsNamed
+  number-batch rs ns xs = batch-cases N rs ns xs (λ (p : Batched). errorOf (p .reply) ≡ first (batchChecks rs xs)) (λ z. sym z) (λ z. sym z)
+
   number : (c : NamedCall) → errorOf (replyNamed N c) ≡ full c
   unfolding outcomeNamed faulty refusalsNamed createNamed createNamedChecks createWay removeNamed removeWay linkNamed linkNamedChecks linkWay renameNamed renameNamedChecks renameWay exchangeNamed exchangeWay
   number (lifted b q) = number-lifted b q
@@ -147,6 +172,7 @@ module _ (N : Named) where
   number (exchange t s d x) = way-number N (exchangeWay N t s d x)
   number (lookup p) = number-lookup p
   number (turn Q) = number-turn Q
+  number (batch rs ns xs) = number-batch rs ns xs
 
 pub layer-named : LayerNamed
 layer-named = record {

@@ -13,3 +13,4 @@ pub mod Layer
 pub mod Lookup
 pub mod Unsound
 pub mod Promise
+pub mod Answers

@@ -20,7 +20,8 @@ use Rattle.queue.specs.Queue.{Queue}
 use Rattle.named.specs.Named.{Named, withNames, NamedOutcome, namedOutcome, lift}
 use Rattle.named.specs.Tree.{createNamedChecks, createNamed, removeNamed, linkNamedChecks, linkNamed, renameNamedChecks, renameNamed, exchangeNamed}
 use Rattle.named.specs.Queue.{turnNamed}
-use Rattle.named.specs.Calls.{leavesTree, NamedCall, lifted, create, remove, link, rename, exchange, lookup, turn, outcomeNamed, afterNamed, replyNamed, callerNamed, wouldFreeNamed, freesNamed, wouldEndNamed, endsNamed, onCore}
+use Rattle.named.specs.Batch.{batchNamed}
+use Rattle.named.specs.Calls.{leavesTree, NamedCall, lifted, create, remove, link, rename, exchange, lookup, turn, batch, outcomeNamed, afterNamed, replyNamed, callerNamed, wouldFreeNamed, freesNamed, wouldEndNamed, endsNamed, onCore}
 use Rattle.named.specs.Claim.{ChangesTree}
 use Rattle.named.proofs.Made.{core-sound, lift-unnamed, lift-goes, named-cases, Way, wayNamed, wayCore, way-goes, core-goes, made, refused-left}
 use Rattle.named.proofs.Listed.{createWay, removeWay, linkWay, renameWay, exchangeWay}
@@ -40,6 +41,7 @@ pub data Seen (N : Named) : NamedCall → Type 0 where
   of-tree : {c : NamedCall} (b : Call) → OfTree N c b → Seen N c
   is-lookup : (p : List ℕ) → Seen N (lookup p)
   is-turn : (Q : Queue) → Seen N (turn Q)
+  is-batch : (rs ns xs : List ℕ) → Seen N (batch rs ns xs)
 
 pub seen : (N : Named) (c : NamedCall) → Seen N c
 unfolding outcomeNamed outcomeOf onCore callerNamed caller wouldFreeNamed wouldFree wouldEnd
@@ -58,6 +60,7 @@ seen N (exchange t s d x) = of-tree (Call.exchange t s d x)
     (record { way = exchangeWay N t s d x; is-named = refl; is-core = refl; comes-to = refl; whose = refl; frees-same = λ e. refl; ends-none = λ u. refl })
 seen N (lookup p) = is-lookup p
 seen N (turn Q) = is-turn Q
+seen N (batch rs ns xs) = is-batch rs ns xs
 
 -- ---- the translation: a lifted call where the names are sound, a call of the tree where it is not refused
 unfoldable pub turned : (N : Named) (c : NamedCall) → Seen N c → List Call
@@ -65,6 +68,7 @@ turned N c (is-lifted b q) = cond (namesSound (N .core .entries) (N .names)) (b 
 turned N c (of-tree b O) = cond (isDone (replyNamed N c)) (b ∷ []) []
 turned N c (is-lookup p) = []
 turned N c (is-turn Q) = []
+turned N c (is-batch rs ns xs) = []
 
 unfoldable pub translate : Named → NamedCall → List Call
 translate N c = turned N c (seen N c)
@@ -140,6 +144,10 @@ pub turn-left : (N : Named) (Q : Queue) → afterNamed N (turn Q) ≡ N
 unfolding outcomeNamed turnNamed
 turn-left N Q = refl
 
+pub batch-left : (N : Named) (rs ns xs : List ℕ) → afterNamed N (batch rs ns xs) ≡ N
+unfolding outcomeNamed batchNamed
+batch-left N rs ns xs = refl
+
 -- ---- every call is followed by its translation
 follows-seen : {N : Named} {c : NamedCall} (v : Seen N c) → Follows N c (turned N c v)
 unfolding turned
@@ -147,6 +155,7 @@ follows-seen {N} (is-lifted b q) = follows-lifted N b q
 follows-seen {N} {c} (of-tree b O) = follows-tree N c b O
 follows-seen {N} (is-lookup p) = follows-none N (lookup p) (ap (λ (M : Named). M .core) (lookup-left N p))
 follows-seen {N} (is-turn Q) = follows-none N (turn Q) (ap (λ (M : Named). M .core) (turn-left N Q))
+follows-seen {N} (is-batch rs ns xs) = follows-none N (batch rs ns xs) (ap (λ (M : Named). M .core) (batch-left N rs ns xs))
 
 pub follows : (N : Named) (c : NamedCall) → Follows N c (translate N c)
 unfolding translate

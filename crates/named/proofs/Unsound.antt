@@ -31,7 +31,8 @@ use Rattle.names.specs.Paths.{pathChecks, found}
 use Rattle.queue.specs.Queue.{Queue, queueSound}
 use Rattle.named.specs.Named.{Named, namedSound}
 use Rattle.named.specs.Tree.{createTarget, newName, createBefore, createNamedChecks, linkTarget, linkBefore, linkNamedChecks, renameBefore, renameNamedChecks}
-use Rattle.named.specs.Calls.{NamedCall, lifted, create, remove, link, rename, exchange, lookup, turn, replyNamed}
+use Rattle.named.specs.Batch.{batchChecks}
+use Rattle.named.specs.Calls.{NamedCall, lifted, create, remove, link, rename, exchange, lookup, turn, batch, replyNamed}
 use Rattle.named.specs.Layer.{faulty, refusalsNamed}
 use Rattle.named.proofs.Made.{omits, omits-first}
 use Rattle.named.proofs.Layer.{found-replies, layer-named}
@@ -66,7 +67,7 @@ found-not = found-replies (λ r. errorOf r ≡ EIO → ⊥) (λ e z. omega arith
 
 named-omits : (N : Named) (c : NamedCall) → omits EIO (refusalsNamed N c) ≡ true
 unfolding omits refusalsOf refusalsNamed createNamedChecks createBefore createTarget newName nameChecks createVerdict createLater
-    linkNamedChecks linkBefore linkTarget linkVerdict linkLater renameNamedChecks renameBefore renameVerdict renameLater verdict pathChecks
+    linkNamedChecks linkBefore linkTarget linkVerdict linkLater renameNamedChecks renameBefore renameVerdict renameLater verdict pathChecks batchChecks
 named-omits N (lifted c q) = settled-omits (N .core) c
 named-omits N (create t d k n) = refl
 named-omits N (remove t e) = settled-omits (N .core) (Call.remove t e)
@@ -75,6 +76,7 @@ named-omits N (rename t s d n) = refl
 named-omits N (exchange t s d x) = settled-omits (N .core) (Call.exchange t s d x)
 named-omits N (lookup p) = rw (ne-eqb (errorOf (found (N .core .entries) (N .names) p)) EIO (found-not (N .core .entries) (N .names) p)) refl
 named-omits N (turn Q) = refl
+named-omits N (batch rs ns xs) = refl
 
 -- an EIO is of what is faulty
 eio-faulty : (N : Named) (c : NamedCall) → errorOf (replyNamed N c) ≡ EIO → faulty N c ≡ true
@@ -97,4 +99,5 @@ not-unsound N c h z = of-turn c (eio-faulty N c z)
     of-turn (rename t s d n) q = sound-tables q
     of-turn (exchange t s d x) q = sound-tables q
     of-turn (lookup p) q = sound-tables q
+    of-turn (batch rs ns xs) q = clash false q refl
     of-turn (turn Q) q = (Q, refl, not-true (queueSound Q) q)

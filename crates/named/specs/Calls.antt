@@ -12,6 +12,7 @@ use Rattle.queue.specs.Queue.{Queue}
 use Rattle.named.specs.Named.{Named, NamedOutcome, namedOutcome, namedCall, lift}
 use Rattle.named.specs.Tree.{createNamed, removeNamed, linkNamed, replacedBy, renameNamed, exchangeNamed}
 use Rattle.named.specs.Queue.{turnNamed}
+use Rattle.named.specs.Batch.{batchNamed}
 
 -- the calls of document 01 that neither read nor write names: all but those that change the tree
 abbrev pub leavesTree : Call → Bool
@@ -51,6 +52,8 @@ pub data NamedCall : Type 0 where
   lookup : List ℕ → NamedCall
   -- queue
   turn : Queue → NamedCall
+  -- requests, their names, answers
+  batch : List ℕ → List ℕ → List ℕ → NamedCall
 
 -- what a call answers and leaves
 unfoldable pub outcomeNamed : Named → NamedCall → NamedOutcome
@@ -62,6 +65,7 @@ outcomeNamed N (rename t s d n) = renameNamed N t s d n
 outcomeNamed N (exchange t s d x) = exchangeNamed N t s d x
 outcomeNamed N (lookup p) = namedCall N (pathChecks p) (namedOutcome (found (N .core .entries) (N .names) p) N)
 outcomeNamed N (turn Q) = turnNamed N Q
+outcomeNamed N (batch rs ns xs) = batchNamed N rs ns xs
 
 abbrev pub afterNamed : Named → NamedCall → Named
 afterNamed N c = outcomeNamed N c .left
@@ -84,6 +88,7 @@ callerNamed (rename t s d n) = t
 callerNamed (exchange t s d x) = t
 callerNamed (lookup p) = 0
 callerNamed (turn Q) = 0
+callerNamed (batch rs ns xs) = 0
 
 -- the entries that a call frees if it is not refused: "by a remove of it or a rename that replaced it"
 unfoldable pub wouldFreeNamed : Named → NamedCall → ℕ → Bool
@@ -95,6 +100,7 @@ wouldFreeNamed N (rename t s d n) e = replacing (replacedBy N d n) (λ y. not (s
 wouldFreeNamed N (exchange t s d x) e = false
 wouldFreeNamed N (lookup p) e = false
 wouldFreeNamed N (turn Q) e = false
+wouldFreeNamed N (batch rs ns xs) e = false
 
 unfoldable pub freesNamed : Named → NamedCall → ℕ → Bool
 freesNamed N c e = isDone (replyNamed N c) && wouldFreeNamed N c e
@@ -109,11 +115,12 @@ wouldEndNamed (rename u s d n) t = false
 wouldEndNamed (exchange u s d x) t = false
 wouldEndNamed (lookup p) t = false
 wouldEndNamed (turn Q) t = false
+wouldEndNamed (batch rs ns xs) t = false
 
 unfoldable pub endsNamed : Named → NamedCall → ℕ → Bool
 endsNamed N c t = isDone (replyNamed N c) && wouldEndNamed c t
 
--- document 01's call on the six tables that a call comes to; a lookup and a turn come to none
+-- document 01's call on the six tables that a call comes to; a lookup, a turn and a batch come to none
 unfoldable pub onCore : Named → NamedCall → List Call
 onCore N (lifted c q) = c ∷ []
 onCore N (create t d k n) = Call.create t d k ∷ []
@@ -123,3 +130,4 @@ onCore N (rename t s d n) = Call.rename t s d (replacedBy N d n) ∷ []
 onCore N (exchange t s d x) = Call.exchange t s d x ∷ []
 onCore N (lookup p) = []
 onCore N (turn Q) = []
+onCore N (batch rs ns xs) = []

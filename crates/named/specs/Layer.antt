@@ -1,6 +1,6 @@
 -- Document 02, W8, "All callers pass it on": which layer a refusal names, on tables with names.
 use mathlib.Core.Path.{_≡_}
-use mathlib.Core.Bool.{Bool, true, not}
+use mathlib.Core.Bool.{Bool, true, false, not}
 use mathlib.Core.List.{List, [], _∷_, _++_}
 use Prim.Native.Nat.{ℕ}
 use Rattle.laws.specs.Refusals.{Check, _⇒_, first}
@@ -17,9 +17,10 @@ use Rattle.names.specs.Paths.{pathChecks, found}
 use Rattle.queue.specs.Queue.{queueSound}
 use Rattle.named.specs.Named.{Named, namedSound}
 use Rattle.named.specs.Tree.{createNamedChecks, linkNamedChecks, renameNamedChecks}
-use Rattle.named.specs.Calls.{NamedCall, lifted, create, remove, link, rename, exchange, lookup, turn, replyNamed, onCore}
+use Rattle.named.specs.Batch.{batchChecks}
+use Rattle.named.specs.Calls.{NamedCall, lifted, create, remove, link, rename, exchange, lookup, turn, batch, replyNamed, onCore}
 
--- what is EIO before any other refusal: tables that are not sound; at a turn they are an answer, and a queue that is not sound is EIO
+-- what is EIO before any other refusal: tables that are not sound; at a turn and in a batch they are an answer, and a queue that is not sound is EIO
 unfoldable pub faulty : Named → NamedCall → Bool
 faulty N (lifted c q) = not (namedSound N)
 faulty N (create t d k n) = not (namedSound N)
@@ -29,6 +30,7 @@ faulty N (rename t s d n) = not (namedSound N)
 faulty N (exchange t s d x) = not (namedSound N)
 faulty N (lookup p) = not (namedSound N)
 faulty N (turn Q) = not (queueSound Q)
+faulty N (batch rs ns xs) = false
 
 -- the refusals of a call on sound tables, in their order; a lookup's components come after its first checks
 unfoldable pub refusalsNamed : Named → NamedCall → List Check
@@ -40,6 +42,7 @@ refusalsNamed N (rename t s d n) = renameNamedChecks N t s d n
 refusalsNamed N (exchange t s d x) = exchangeChecks (N .core) t s d x
 refusalsNamed N (lookup p) = pathChecks p ++ (true ⇒ errorOf (found (N .core .entries) (N .names) p) ∷ [])
 refusalsNamed N (turn Q) = []
+refusalsNamed N (batch rs ns xs) = batchChecks rs xs
 
 -- document 01's call on the six tables gave this very reply, and names the layer as `ByVerdict` says
 pub record PassedOn (N : Named) (c : NamedCall) (e : Errno) (l : ℕ) (s : Rights) : Type 0 where

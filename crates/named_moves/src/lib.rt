@@ -17,8 +17,11 @@ use tree_link::apply_link;
 use tree_rename::apply_rename;
 use tree_replaced::is_same;
 ghost use mathlib.Core.Path.{_≡_};
+ghost use mathlib.Core.Bool.{true};
 ghost use Prim.Native.Nat.{_≤_};
 ghost use lib.ListN.{length};
+ghost use Rattle.tables.specs.Tables.{tables};
+ghost use Rattle.sound.specs.Sound.{sound};
 ghost use Rattle.fs.specs.Blame.{moveReply, namingMove};
 ghost use Rattle.tree.specs.Entries.{freeEntry, withEntries};
 ghost use Rattle.tree.specs.Moves.{linkMove, renameMove, exchangeMove};
@@ -202,6 +205,7 @@ pub fn exchange(
     d: u64,
     x: u64,
 ) -> Reply
+    requires { ⌜ sound (tables (now system) (now entries) (now rulesets) (now layers) (now pool) (now threads)) ≡ true ⌝ }
     ensures { λ r. ⌜ namedOutcome r (after system entries rulesets layers pool threads names) ≡ judgedBy (namingMove (before system entries rulesets layers pool threads names .core) t (exchangeMove (now (entries .entry)) s d x)) (namedAnswer (before system entries rulesets layers pool threads names) (exchangeChecks (before system entries rulesets layers pool threads names .core) t s d x) (namedOutcome (Reply.Done 0) (withNames (withEntries (before system entries rulesets layers pool threads names .core) (swapped (now (entries .entry)) s d x)) (swappedNames (now (entries .entry)) (now (names .entry)) s x)))) ⌝ }
 {
     let reply = exchange_checks(system, entries, rulesets, layers, pool, threads, t, s, d, x);

@@ -13,7 +13,7 @@ ghost use Rattle.tables.specs.Outcome.{outcome, answer};
 ghost use Rattle.judge.specs.Blame.{namingPort};
 ghost use Rattle.net.specs.Port.{portForm, portChecks};
 
-fn port_form(threads: &[u64], t: u64, port: u64, asked: Rights) -> u64
+pub fn port_form(threads: &[u64], t: u64, port: u64, asked: Rights) -> u64
     ensures { λ r. ⌜ r ≡ first (portForm (now (threads .entry)) t port (asked .0)) ⌝ }
 {
     if !thread_live(threads, t) {

@@ -35,7 +35,7 @@ index-none es ns h m = record {
   held = λ f k l. absurd (not-suc-le-zero k);
 }
 
-nodes-more : (es cells : List ℕ) {n m : ℕ} → n ≤ m → Nodes es cells n → Nodes es cells m
+pub nodes-more : (es cells : List ℕ) {n m : ℕ} → n ≤ m → Nodes es cells n → Nodes es cells m
 nodes-more es cells l N p d = let s = N p d in ((let k = s .0 in omega arith), s .1)
 
 -- a cell is set to v, which is empty or an entry below n that has a name
@@ -45,6 +45,11 @@ nodes-set es cells p v n w g N q = split (eqb q p)
     (λ y. rw (getD-set-other cells p q v 0 (eqb-false q p y)) (N q))
 
 module _ (es ns : List ℕ) {heads links : List ℕ} {e : ℕ} (u : ChainedBelow es ns heads links e) where
+  -- what is on a chain is an entry that has a name
+  pub on-node : {at f : ℕ} → at < e → isNamed es at ≡ true → On links at f → (f < e) × (isNamed es f ≡ true)
+  on-node k m (here d) = (k, m)
+  on-node {at} k m (next d i r) = let s = rw i at (u .nexts at (λ z. on-some r (sym i ∙ z))) in on-node (s .0) (s .1) r
+
   -- an entry without a name
   pub index-free : isNamed es e ≡ false → ChainedBelow es ns heads links (e + 1)
   index-free z = record {

@@ -14,23 +14,24 @@ use Rattle.names.specs.Names.{nameWidth, rowAt, isNamed, rowSound, unlike}
 use Rattle.names.proofs.Bytes.{bytes-equal, bytes-same}
 use Rattle.sound_names_rows.proofs.Twins.{twin-unlike, none-unlike, row-own}
 use Rattle.sound_names_walk.specs.Fold.{buckets, bucketOf, folded, bucketAt}
-use Rattle.sound_names_walk.specs.Walks.{sameName, On, here, next, walked}
-use Rattle.sound_names_chains.specs.Chains.{ChainedBelow, added}
-use Rattle.sound_names_walk.specs.declared.Tested.{Tested}
-use Rattle.sound_names_walk.specs.declared.Tested.the-variants.{Left, Unsound}
+use Rattle.sound_names_walk.specs.Walks.{sameName, On, walked}
+use Rattle.sound_names_walk.specs.declared.Walked.{Walked}
+use Rattle.sound_names_walk.specs.declared.Walked.the-variants.{Missing, Found}
+use Rattle.sound_names_chains.specs.Chains.{ChainedBelow, testedBy, added}
+use Rattle.sound_names_chains.specs.declared.Tested.{Tested}
 use Rattle.sound_names_walk.proofs.Walks.{on-some, Clear}
-use Rattle.sound_names_chains.proofs.Index.{index-add}
+use Rattle.sound_names_chains.proofs.Index.{on-node, index-add}
 
 module _ (es ns : List ℕ) where
-  same-of : (e f : ℕ) → parent es e ≡ parent es f → rowAt ns e ≡ rowAt ns f → sameName es ns (parent es e) e f ≡ true
+  same-of : (e f : ℕ) → parent es e ≡ parent es f → rowAt ns e ≡ rowAt ns f → sameName es ns (parent es e) (rowAt ns e) f ≡ true
   unfolding sameName
   same-of e f p q = both (eqb (parent es f) (parent es e)) _ (eq-eqb (parent es f) (parent es e) (sym p)) (rw q (bytes-same (rowAt ns f)))
 
-  same-parent : (e f : ℕ) → sameName es ns (parent es e) e f ≡ true → parent es e ≡ parent es f
+  same-parent : (e f : ℕ) → sameName es ns (parent es e) (rowAt ns e) f ≡ true → parent es e ≡ parent es f
   unfolding sameName
   same-parent e f h = sym (eqb-true (parent es f) (parent es e) (and-l (eqb (parent es f) (parent es e)) _ h))
 
-  same-row-of : (e f : ℕ) → sameName es ns (parent es e) e f ≡ true → rowAt ns e ≡ rowAt ns f
+  same-row-of : (e f : ℕ) → sameName es ns (parent es e) (rowAt ns e) f ≡ true → rowAt ns e ≡ rowAt ns f
   unfolding sameName
   same-row-of e f h = bytes-equal (rowAt ns e) (rowAt ns f) (and-r (eqb (parent es f) (parent es e)) _ h)
 
@@ -45,25 +46,21 @@ module _ (es ns : List ℕ) where
   -- entry e, which has a name; the rows up to it are sound, and the index has those before it
   module _ (w : length ns ≡ nameWidth * maxEntries) {e : ℕ} (small : e < maxEntries) (l : isNamed es e ≡ true) (rows : allBelow (rowSound es ns) (e + 1) ≡ true)
       {heads links : List ℕ} (u : ChainedBelow es ns heads links e) {b : ℕ} (q : b ≡ bucketAt es ns e) (in-heads : b < buckets) where
-    on-node : {at f : ℕ} → at < e → isNamed es at ≡ true → On links at f → (f < e) × (isNamed es f ≡ true)
-    on-node k m (here d) = (k, m)
-    on-node {at} k m (next d i r) = let s = rw i at (u .nexts at (λ z. on-some r (sym i ∙ z))) in on-node (s .0) (s .1) r
-
-    none-before : Clear es ns links (parent es e) e (getD heads b 0) → unlike es ns e ≡ true
+    none-before : Clear es ns links (parent es e) (rowAt ns e) (getD heads b 0) → unlike es ns e ≡ true
     none-before C = none-unlike es ns w e small l rows (λ f k m p r.
-        clash (sameName es ns (parent es e) e f) (same-of e f p r) (C f (rw (q, one-bucket e f p r) (u .held f k m))))
+        clash (sameName es ns (parent es e) (rowAt ns e) f) (same-of e f p r) (C f (rw (q, one-bucket e f p r) (u .held f k m))))
 
-    some-before : (f : ℕ) → On links (getD heads b 0) f → sameName es ns (parent es e) e f ≡ true → unlike es ns e ≡ false
+    some-before : (f : ℕ) → On links (getD heads b 0) f → sameName es ns (parent es e) (rowAt ns e) f ≡ true → unlike es ns e ≡ false
     some-before f r h =
         let s = u .firsts b (on-some r) in
-        let t = on-node (s .0) (s .1) r in
+        let t = on-node es ns u (s .0) (s .1) r in
         twin-unlike es ns w e small l rows f (t .0) (t .1) (same-parent e f h) (same-row-of e f h)
 
-    added-by : {steps : ℕ} → (steps ≡ 0 → ⊥) → (t : Tested) → walked es ns links (parent es e) e (getD heads b 0) t → added es ns (set heads b e) (set links e (getD heads b 0)) steps e t
+    added-by : {steps : ℕ} → (steps ≡ 0 → ⊥) → (t : Walked) → walked es ns links (parent es e) (rowAt ns e) (getD heads b 0) t → added es ns (set heads b e) (set links e (getD heads b 0)) steps e (testedBy t)
     unfolding walked added
-    added-by some (Left n) C = (row-own es ns w e small l rows, λ z. ((some, none-before (C z)), index-add es ns u small l q in-heads))
-    added-by some Unsound s = rw (some-before (s .0) (s .1) (s .2)) (and-false (rowSound es ns e))
+    added-by some (Missing n) C = (row-own es ns w e small l rows, λ z. ((some, none-before (C z)), index-add es ns u small l q in-heads))
+    added-by some (Found f) s = rw (some-before f (s .0) (s .1)) (and-false (rowSound es ns e))
 
     -- as the code comes to it
-    pub added-is : {steps p : ℕ} (t : Tested) → (steps ≡ 0 → ⊥) → p ≡ parent es e → walked es ns links p e (getD heads b 0) t → added es ns (set heads b e) (set links e (getD heads b 0)) steps e t
-    added-is t some i h = added-by some t (rw i at h)
+    pub added-is : {steps p : ℕ} {r : Tested} (t : Walked) → (steps ≡ 0 → ⊥) → p ≡ parent es e → walked es ns links p (rowAt ns e) (getD heads b 0) t → r ≡ testedBy t → added es ns (set heads b e) (set links e (getD heads b 0)) steps e r
+    added-is t some i h j = rw j (added-by some t (rw i at h))

@@ -3,8 +3,7 @@ use access::limits::MAX_ENTRIES;
 use names::NAME_WIDTH;
 use sound_names_rows::is_named;
 use sound_names_rows::row_sound;
-use sound_names_walk::BUCKETS;
-use sound_names_walk::Tested;
+use sound_names_walk::Walked;
 use sound_names_walk::bucket_of;
 use sound_names_walk::fold;
 use sound_names_walk::walk;
@@ -17,16 +16,32 @@ ghost use Rattle.laws.specs.Tests.{allBelow};
 ghost use Rattle.access.specs.Limits.{maxEntries};
 ghost use Rattle.names.specs.Names.{nameWidth, isNamed, rowSound};
 ghost use Rattle.sound_names_walk.specs.Fold.{buckets};
-ghost use Rattle.sound_names_chains.specs.Chains.{ChainedBelow, added, told};
+ghost use Rattle.sound_names_chains.specs.Chains.{ChainedBelow, testedBy, added, told};
 
 // The steps along chains: clients choose the names, and can bring all of them into one bucket.
 const STEPS: usize = 4096;
+
+// What the test of an entry tells: no twin, with so many steps left, but nothing of twins once none is left; or not sound.
+pub enum Tested {
+    Left(usize),
+    Unsound,
+}
 
 // What the test of all names tells: sound; not sound; or not known, for lack of steps, but every row is sound.
 pub enum Answer {
     Sound,
     Unsound,
     Open,
+}
+
+// What a walk tells of the entry whose row it looked for.
+fn tested_by(walked: Walked) -> Tested
+    ensures { λ r. ⌜ r ≡ testedBy walked ⌝ }
+{
+    match walked {
+        Walked::Missing(left) => Tested::Left(left),
+        Walked::Found(_) => Tested::Unsound,
+    }
 }
 
 // Puts entry `e` at the head of its bucket's chain, along which its name is looked for.
@@ -43,12 +58,13 @@ fn add_name(
 {
     let parent = parent_of(entries, e as u64);
     let from = NAME_WIDTH * e;
-    let b = bucket_of(fold(parent, &names[from..from + NAME_WIDTH]));
+    let row = &names[from..from + NAME_WIDTH];
+    let b = bucket_of(fold(parent, row));
     let head = heads[b];
-    let tested = walk(entries, names, links, parent, e, head as usize, steps);
+    let walked = walk(entries, names, links, parent, row, head as usize, steps);
     links[e] = head;
     heads[b] = e as u16;
-    tested
+    tested_by(walked)
 }
 
 // The test of entry `e` against those before it, which the index has as long as a step is left.
@@ -77,10 +93,15 @@ fn add_entry(
     add_name(entries, names, heads, links, e, steps)
 }
 
-// Every entry against those before it. Fills the index, which starts as zeros.
-fn add_entries(entries: &[u64], names: &[u8], heads: &mut [u16], links: &mut [u16]) -> Answer
+// The names are sound, as far as the steps suffice: every entry against those before it. Fills the index, which starts as zeros.
+pub fn names_by_chains(
+    entries: &[u64],
+    names: &[u8],
+    heads: &mut [u16],
+    links: &mut [u16],
+) -> Answer
     requires { ⌜ (length (now names) ≡ nameWidth * maxEntries) × ((now heads ≡ replicate buckets 0) × (now links ≡ replicate maxEntries 0)) ⌝ }
-    ensures { λ r. ⌜ told (now (entries .entry)) (now (names .entry)) r ⌝ }
+    ensures { λ r. ⌜ told (now (entries .entry)) (now (names .entry)) (now (heads .exit)) (now (links .exit)) r ⌝ }
 {
     let mut left = STEPS;
     let mut e = 0;
@@ -98,14 +119,4 @@ fn add_entries(entries: &[u64], names: &[u8], heads: &mut [u16], links: &mut [u1
         return Answer::Open;
     }
     Answer::Sound
-}
-
-// The names are sound, as far as the steps suffice.
-pub fn names_by_chains(entries: &[u64], names: &[u8]) -> Answer
-    requires { ⌜ length (now names) ≡ nameWidth * maxEntries ⌝ }
-    ensures { λ r. ⌜ told (now (entries .entry)) (now (names .entry)) r ⌝ }
-{
-    let mut heads = [0u16; BUCKETS];
-    let mut links = [0u16; MAX_ENTRIES];
-    add_entries(entries, names, &mut heads, &mut links)
 }

@@ -7,12 +7,12 @@ use lib.Dec.{eqb}
 use lib.ListN.{getD}
 use Rattle.tables.specs.Tables.{parent}
 use Rattle.names.specs.Names.{rowAt, sameBytes, isNamed}
-use Rattle.sound_names_walk.specs.declared.Tested.{Tested}
-use Rattle.sound_names_walk.specs.declared.Tested.the-variants.{Left, Unsound}
+use Rattle.sound_names_walk.specs.declared.Walked.{Walked}
+use Rattle.sound_names_walk.specs.declared.Walked.the-variants.{Missing, Found}
 
--- entry f stands in the directory p, and has the row of e
-unfoldable pub sameName : List ℕ → List ℕ → ℕ → ℕ → ℕ → Bool
-sameName es ns p e f = eqb (parent es f) p && sameBytes (rowAt ns e) (rowAt ns f)
+-- entry f stands in the directory p, and has the row
+unfoldable pub sameName : List ℕ → List ℕ → ℕ → List ℕ → ℕ → Bool
+sameName es ns p row f = eqb (parent es f) p && sameBytes row (rowAt ns f)
 
 -- entry f is on the chain from `at`
 pub data On (links : List ℕ) : ℕ → ℕ → Type 0 where
@@ -23,7 +23,7 @@ pub data On (links : List ℕ) : ℕ → ℕ → Type 0 where
 abbrev pub Nodes : List ℕ → List ℕ → ℕ → Type 0
 Nodes es cells n = (p : ℕ) → (getD cells p 0 ≡ 0 → ⊥) → (getD cells p 0 < n) × (isNamed es (getD cells p 0) ≡ true)
 
--- what a walk along the chain from `at` tells of entry e in the directory p: nothing if no step is left
-unfoldable pub walked : List ℕ → List ℕ → List ℕ → ℕ → ℕ → ℕ → Tested → Type 0
-walked es ns links p e at (Left n) = (n ≡ 0 → ⊥) → (f : ℕ) → On links at f → sameName es ns p e f ≡ false
-walked es ns links p e at Unsound = (f : ℕ) × On links at f × (sameName es ns p e f ≡ true)
+-- what a walk along the chain from `at` tells of a row in the directory p: nothing if no step is left
+unfoldable pub walked : List ℕ → List ℕ → List ℕ → ℕ → List ℕ → ℕ → Walked → Type 0
+walked es ns links p row at (Missing n) = (n ≡ 0 → ⊥) → (f : ℕ) → On links at f → sameName es ns p row f ≡ false
+walked es ns links p row at (Found f) = On links at f × (sameName es ns p row f ≡ true)

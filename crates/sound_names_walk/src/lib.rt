@@ -23,10 +23,10 @@ const LOW_FACTOR: u64 = 0x9E37_79B1;
 
 const HIGH_FACTOR: u64 = 0x85EB_CA77;
 
-// What the test of an entry tells: no twin, with so many steps left, but nothing of twins once none is left; or not sound.
-pub enum Tested {
-    Left(usize),
-    Unsound,
+// What a walk tells: no entry of the chain has the row, with so many steps left, but nothing once none is left; or the entry that has it.
+pub enum Walked {
+    Missing(usize),
+    Found(usize),
 }
 
 // The fold with the next word. Any function would do.
@@ -59,43 +59,42 @@ pub fn bucket_of(w: u64) -> usize
     ((m ^ (m / HALF)) % BUCKETS as u64) as usize
 }
 
-// Entry `f` stands in the directory `parent`, and has the row of `e`.
-fn is_same_name(entries: &[u64], names: &[u8], parent: u64, e: usize, f: usize) -> bool
-    requires { ⌜ (length (now names) ≡ nameWidth * maxEntries) × ((e < maxEntries) × (f < maxEntries)) ⌝ }
-    ensures { λ r. ⌜ r ≡ sameName (now (entries .entry)) (now (names .entry)) parent e f ⌝ }
+// Entry `f` stands in the directory `parent`, and has the row.
+fn is_same_name(entries: &[u64], names: &[u8], parent: u64, row: &[u8], f: usize) -> bool
+    requires { ⌜ (length (now names) ≡ nameWidth * maxEntries) × ((length (now row) ≡ nameWidth) × (f < maxEntries)) ⌝ }
+    ensures { λ r. ⌜ r ≡ sameName (now (entries .entry)) (now (names .entry)) parent (now (row .entry)) f ⌝ }
 {
     if parent_of(entries, f as u64) != parent {
         return false;
     }
-    let a = NAME_WIDTH * e;
-    let b = NAME_WIDTH * f;
-    same_row(&names[a..a + NAME_WIDTH], &names[b..b + NAME_WIDTH])
+    let from = NAME_WIDTH * f;
+    same_row(row, &names[from..from + NAME_WIDTH])
 }
 
-// Goes along the chain from `head` and looks for the name of `e`, in at most `steps` steps.
+// Goes along the chain from `head` and looks for an entry of the directory with the row, in at most `steps` steps.
 pub fn walk(
     entries: &[u64],
     names: &[u8],
     links: &[u16],
     parent: u64,
-    e: usize,
+    row: &[u8],
     head: usize,
     steps: usize,
-) -> Tested
-    requires { ⌜ (length (now names) ≡ nameWidth * maxEntries) × (((e < maxEntries) × (head < maxEntries)) × ((length (now links) ≡ maxEntries) × Nodes (now entries) (now links) e)) ⌝ }
-    ensures { λ r. ⌜ walked (now (entries .entry)) (now (names .entry)) (now (links .entry)) parent e head r ⌝ }
+) -> Walked
+    requires { ⌜ (length (now names) ≡ nameWidth * maxEntries) × (((length (now row) ≡ nameWidth) × (head < maxEntries)) × ((length (now links) ≡ maxEntries) × Nodes (now entries) (now links) maxEntries)) ⌝ }
+    ensures { λ r. ⌜ walked (now (entries .entry)) (now (names .entry)) (now (links .entry)) parent (now (row .entry)) head r ⌝ }
 {
     let mut at = head;
     let mut left = steps;
     while at != 0 {
         if left == 0 {
-            return Tested::Left(0);
+            return Walked::Missing(0);
         }
-        if is_same_name(entries, names, parent, e, at) {
-            return Tested::Unsound;
+        if is_same_name(entries, names, parent, row, at) {
+            return Walked::Found(at);
         }
         at = links[at] as usize;
         left -= 1;
     }
-    Tested::Left(left)
+    Walked::Missing(left)
 }

@@ -1,6 +1,7 @@
 // Exchange two entries: each moves to the other's directory.
 use access::errno::Errno;
 use access::errno::Reply;
+use fs::table::needs_table;
 use tables::rows::entry_live;
 use tables::rows::is_dir;
 use tables::rows::parent_of;
@@ -13,16 +14,20 @@ use verdict::Denial;
 use verdict::Question;
 use verdict::move_denial;
 ghost use mathlib.Core.Path.{_≡_};
+ghost use mathlib.Core.Bool.{true};
 ghost use Rattle.laws.specs.Refusals.{first};
-ghost use Rattle.tables.specs.Tables.{before, after};
+ghost use Rattle.tables.specs.Tables.{tables, before, after};
 ghost use Rattle.tables.specs.Outcome.{outcome, answer};
+ghost use Rattle.sound.specs.Sound.{sound};
 ghost use Rattle.fs.specs.Blame.{moveReply, namingMove};
+ghost use Rattle.fs.specs.declared.needs.Step.the-variants.{Exchange};
 ghost use Rattle.verdict.specs.Denial.{threadDenial};
-ghost use Rattle.tree.specs.Moves.{exchangeMove};
+ghost use Rattle.tree.specs.Moves.{kindAt, exchangeMove};
+ghost use Rattle.tree_moves.specs.Rows.{readsPossible};
 ghost use Rattle.tree.specs.Entries.{withEntries};
 ghost use Rattle.tree.specs.Exchange.{exchangeNames, exchangeShape, exchangeChecks, swapped};
 
-fn exchange_names(
+pub fn exchange_names(
     system: &[u64],
     entries: &[u64],
     rulesets: &[u64],
@@ -51,7 +56,7 @@ fn exchange_names(
     0
 }
 
-fn exchange_shape(entries: &[u64], s: u64, d: u64, x: u64) -> u64
+pub fn exchange_shape(entries: &[u64], s: u64, d: u64, x: u64) -> u64
     ensures { λ r. ⌜ r ≡ first (exchangeShape (now (entries .entry)) s d x) ⌝ }
 {
     if s == 0 {
@@ -86,15 +91,17 @@ fn exchange_denial(
     d: u64,
     x: u64,
 ) -> Denial
+    requires { ⌜ readsPossible Exchange (kindAt (now entries) s) (kindAt (now entries) x) ≡ true ⌝ }
     ensures { λ r. ⌜ r ≡ threadDenial (now (entries .entry)) (now (layers .entry)) (now (pool .entry)) (now (threads .entry)) t (Question.Move (exchangeMove (now (entries .entry)) s d x)) ⌝ }
 {
+    let needs = needs_table();
     move_denial(
         entries,
         layers,
         pool,
         threads,
         t,
-        exchange_move(entries, s, d, x),
+        exchange_move(&needs, entries, s, d, x),
     )
 }
 
@@ -110,6 +117,7 @@ pub fn exchange_checks(
     d: u64,
     x: u64,
 ) -> Reply
+    requires { ⌜ sound (tables (now system) (now entries) (now rulesets) (now layers) (now pool) (now threads)) ≡ true ⌝ }
     ensures { λ r. ⌜ r ≡ moveReply (before system entries rulesets layers pool threads) t (exchangeMove (now (entries .entry)) s d x) (exchangeChecks (before system entries rulesets layers pool threads) t s d x) ⌝ }
 {
     let a = exchange_names(system, entries, rulesets, layers, pool, threads, t, s, d, x);
@@ -148,6 +156,7 @@ pub fn exchange(
     d: u64,
     x: u64,
 ) -> Reply
+    requires { ⌜ sound (tables (now system) (now entries) (now rulesets) (now layers) (now pool) (now threads)) ≡ true ⌝ }
     ensures { λ r. ⌜ outcome r (after system entries rulesets layers pool threads) ≡ namingMove (before system entries rulesets layers pool threads) t (exchangeMove (now (entries .entry)) s d x) (answer (before system entries rulesets layers pool threads) (exchangeChecks (before system entries rulesets layers pool threads) t s d x) (outcome (Reply.Done 0) (withEntries (before system entries rulesets layers pool threads) (swapped (now (entries .entry)) s d x)))) ⌝ }
 {
     let reply = exchange_checks(system, entries, rulesets, layers, pool, threads, t, s, d, x);

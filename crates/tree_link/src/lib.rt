@@ -2,6 +2,7 @@
 use access::errno::Errno;
 use access::errno::Reply;
 use access::limits::MAX_ENTRIES;
+use fs::table::needs_table;
 use tables::rows::entry_live;
 use tables::rows::is_dir;
 use tables::rows::kind_of;
@@ -14,12 +15,16 @@ use verdict::Denial;
 use verdict::Question;
 use verdict::move_denial;
 ghost use mathlib.Core.Path.{_≡_};
+ghost use mathlib.Core.Bool.{true};
 ghost use Rattle.laws.specs.Refusals.{first};
+ghost use Rattle.access.specs.declared.kinds.MaybeKind.the-variants.{None};
 ghost use Rattle.tables.specs.Tables.{before, after};
 ghost use Rattle.tables.specs.Outcome.{outcome, answer};
 ghost use Rattle.fs.specs.Blame.{moveReply, namingMove};
+ghost use Rattle.fs.specs.declared.needs.Step.the-variants.{Link};
 ghost use Rattle.verdict.specs.Denial.{threadDenial};
-ghost use Rattle.tree.specs.Moves.{linkMove};
+ghost use Rattle.tree.specs.Moves.{kindAt, linkMove};
+ghost use Rattle.tree_moves.specs.Rows.{readsPossible};
 ghost use Rattle.tree.specs.Entries.{freeEntry, withEntries};
 ghost use Rattle.tree.specs.Link.{linkShape, linkLater, linkChecks, linked};
 
@@ -67,9 +72,18 @@ fn link_denial(
     s: u64,
     d: u64,
 ) -> Denial
+    requires { ⌜ readsPossible Link (kindAt (now entries) s) None ≡ true ⌝ }
     ensures { λ r. ⌜ r ≡ threadDenial (now (entries .entry)) (now (layers .entry)) (now (pool .entry)) (now (threads .entry)) t (Question.Move (linkMove (now (entries .entry)) s d)) ⌝ }
 {
-    move_denial(entries, layers, pool, threads, t, link_move(entries, s, d))
+    let needs = needs_table();
+    move_denial(
+        entries,
+        layers,
+        pool,
+        threads,
+        t,
+        link_move(&needs, entries, s, d),
+    )
 }
 
 // `e` is the lowest free entry.

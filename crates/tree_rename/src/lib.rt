@@ -1,6 +1,7 @@
 // Rename an entry: move it to a directory, and replace an entry there or none.
 use access::errno::Errno;
 use access::errno::Reply;
+use fs::table::needs_table;
 use tables::rows::entry_live;
 use tables::rows::is_dir;
 use tables::rows::thread_live;
@@ -92,13 +93,14 @@ fn rename_denial(
 ) -> Denial
     ensures { λ r. ⌜ r ≡ threadDenial (now (entries .entry)) (now (layers .entry)) (now (pool .entry)) (now (threads .entry)) t (Question.Move (renameMove (now (entries .entry)) s d x)) ⌝ }
 {
+    let needs = needs_table();
     move_denial(
         entries,
         layers,
         pool,
         threads,
         t,
-        rename_move(entries, s, d, x),
+        rename_move(&needs, entries, s, d, x),
     )
 }
 

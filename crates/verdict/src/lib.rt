@@ -84,7 +84,7 @@ fn larger(a: u64, b: u64) -> u64
 }
 
 // The layer (its number + 1, or 0 for none) and the set of the first crossing that was met.
-fn kept_at(k: u64, at: u64, crossed: Rights) -> u64
+pub fn kept_at(k: u64, at: u64, crossed: Rights) -> u64
     ensures { λ r. ⌜ r ≡ keptAt k at (crossed .0) ⌝ }
 {
     if k != 0 {
@@ -96,7 +96,7 @@ fn kept_at(k: u64, at: u64, crossed: Rights) -> u64
     at
 }
 
-fn kept_set(k: u64, set: u64, crossed: Rights) -> u64
+pub fn kept_set(k: u64, set: u64, crossed: Rights) -> u64
     ensures { λ r. ⌜ r ≡ keptSet k set (crossed .0) ⌝ }
 {
     if k != 0 {
@@ -105,7 +105,7 @@ fn kept_set(k: u64, set: u64, crossed: Rights) -> u64
     crossed.0
 }
 
-fn crossed_at(k: u64, set: u64) -> Denial
+pub fn crossed_at(k: u64, set: u64) -> Denial
     ensures { λ r. ⌜ r ≡ crossedAt k set ⌝ }
 {
     if k == 0 {

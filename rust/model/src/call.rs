@@ -1,5 +1,6 @@
 //! Calls as values, and whatever answers them.
 
+use crate::batch::Batch;
 use crate::names::component;
 use crate::queue::cells::QueueCells;
 use crate::queue::{answered, Request};
@@ -205,8 +206,8 @@ impl Reply {
     }
 }
 
-/// Something that answers calls on tables of any length and contents, and keeps a queue as the model
-/// does unless it says otherwise.
+/// Something that answers calls on tables of any length and contents, and keeps a queue and answers
+/// batches as the model does unless it says otherwise.
 pub trait Broker {
     fn answer(&mut self, tables: &mut Tables, call: &Call) -> Reply;
 
@@ -218,6 +219,12 @@ pub trait Broker {
     /// Takes a turn of the queue on tables; answers as a call does.
     fn turn(&mut self, queue: &mut QueueCells, tables: &Tables) -> u64 {
         returned(queue.turn(|request| answered(check(tables).ok().as_ref(), request).1))
+    }
+
+    /// Answers the requests of a batch; reports every cell for answers.
+    fn batch(&mut self, tables: &mut Tables, batch: &Batch) -> Reply {
+        let (answer, answers) = batch.answer(check(tables).ok().as_ref());
+        Reply::of(answer, answers)
     }
 }
 

@@ -1,6 +1,7 @@
 //! A broker and the model side by side, driven through random lists of calls.
 
 use crate::attributes::{self, LONGEST};
+use crate::batch::{asked, Batch};
 use crate::call::{Broker, Call, Reply};
 use crate::damage::{pokes, undo, Poke};
 use crate::generate::{access_request, call, every_call, Mix};
@@ -28,6 +29,7 @@ pub enum Step {
         length: usize,
     },
     Queue(Event),
+    Batch(Batch),
 }
 
 impl Step {
@@ -36,6 +38,7 @@ impl Step {
         match self {
             Step::Call(call) => Some(call.name()),
             Step::Queue(event) => event.name(),
+            Step::Batch(_) => Some("batch"),
             Step::Damage(_) | Step::Resize { .. } => None,
         }
     }
@@ -97,8 +100,8 @@ impl<B: Broker> Pair<'_, B> {
         }
     }
 
-    /// Takes a step on both sides; answers the model's answer to a call, a post or a turn, and how the sides
-    /// differ.
+    /// Takes a step on both sides; answers the model's answer to a call, a post, a turn or a batch, and how the
+    /// sides differ.
     fn take(&mut self, step: &Step) -> (Option<Answer>, Option<Difference>) {
         self.steps += 1;
         match step {
@@ -117,13 +120,32 @@ impl<B: Broker> Pair<'_, B> {
                 self.reference.resize(*table, *length);
             }
             Step::Queue(event) => return self.queue_event(event),
+            Step::Batch(batch) => {
+                let (answer, difference) = self.batch(batch);
+                return (Some(answer), difference);
+            }
         }
         (None, None)
     }
 
     fn call(&mut self, call: &Call) -> (Answer, Option<Difference>) {
         let broker = self.broker.answer(&mut self.tables, call);
-        let (answer, report) = self.reference.answer(call);
+        let answered = self.reference.answer(call);
+        self.compared(broker, answered)
+    }
+
+    fn batch(&mut self, batch: &Batch) -> (Answer, Option<Difference>) {
+        let broker = self.broker.batch(&mut self.tables, batch);
+        let answered = self.reference.batch(batch);
+        self.compared(broker, answered)
+    }
+
+    /// The model's answer, and how the broker's reply or its tables differ.
+    fn compared(
+        &self,
+        broker: Reply,
+        (answer, report): (Answer, Vec<u64>),
+    ) -> (Answer, Option<Difference>) {
         let model = Reply::of(answer, report);
         if broker == model && self.tables == *self.reference.tables() {
             return (answer, None);
@@ -205,7 +227,7 @@ pub fn sweep<B: Broker>(broker: &mut B, seed: u64, tally: &mut Tally) -> Option<
     let lengths =
         (0..=LAST_LEVEL).flat_map(|level| (0..=LONGEST).map(move |length| (level, length)));
     for (level, length) in lengths {
-        let mut session = Session::new(broker, Model::fresh(level), Mix::Every, 0);
+        let mut session = Session::new(broker, Model::fresh(level), Mix::Every, [0; 2]);
         for (filling, call) in attributes::calls(level, length, &mut random) {
             tally.count_attribute(filling, level, length);
             if session.take(tally, Step::Call(call)).is_some() {
@@ -231,6 +253,7 @@ pub fn compare<B: Broker>(broker: &mut B, options: &Options, tally: &mut Tally) 
     let mut run = Run {
         random: Random::new(options.seed),
         queue_random: Random::new(!options.seed),
+        batch_random: Random::new(options.seed.rotate_left(32)),
         last_call: tally.calls.saturating_add(options.calls),
         tally,
         deadline,
@@ -239,7 +262,8 @@ pub fn compare<B: Broker>(broker: &mut B, options: &Options, tally: &mut Tally) 
         let start = start(&mut run.random);
         let mix = run.random.pick(&[Mix::Every, Mix::Tree]);
         let queue = run.queue_random.pick(&[0, 5, 50]);
-        let mut session = Session::new(broker, start, mix, queue);
+        let batch = run.batch_random.pick(&[0, 3, 20]);
+        let mut session = Session::new(broker, start, mix, [queue, batch]);
         if session.play(&mut run).is_some() {
             return Some(session.case);
         }
@@ -252,6 +276,8 @@ struct Run<'a> {
     random: Random,
     /// What happens to the queue is chosen apart, beside the same calls.
     queue_random: Random,
+    /// Batches, too.
+    batch_random: Random,
     tally: &'a mut Tally,
     /// The calls counted when it ends.
     last_call: u64,
@@ -269,15 +295,19 @@ struct Session<'a, B> {
     mix: Mix,
     /// The chance of something that happens to the queue before the next call, in a hundred.
     queue: u64,
+    /// The chance of a batch before the next call, in a hundred.
+    batch: u64,
     pair: Pair<'a, B>,
     case: Case,
 }
 
 impl<B: Broker> Session<'_, B> {
-    fn new(broker: &mut B, start: Model, mix: Mix, queue: u64) -> Session<'_, B> {
+    fn new(broker: &mut B, start: Model, mix: Mix, chances: [u64; 2]) -> Session<'_, B> {
+        let [queue, batch] = chances;
         Session {
             mix,
             queue,
+            batch,
             pair: Pair::new(broker, &start),
             case: Case {
                 start,
@@ -339,6 +369,9 @@ impl<B: Broker> Session<'_, B> {
             (Step::Queue(event), Some(answer)) => {
                 tally.count_event(event, answer, served);
             }
+            (Step::Batch(batch), Some(answer)) => {
+                tally.count_batch(batch, answer, self.pair.reference.model().ok());
+            }
             _ => {}
         }
         self.case.steps.push(step);
@@ -375,8 +408,17 @@ impl<B: Broker> Session<'_, B> {
         self.take(run.tally, Step::Call(call))
     }
 
-    /// A call, and perhaps things that happen to the queue before it.
+    /// A call, and perhaps a batch and things that happen to the queue before it.
     fn random_step(&mut self, run: &mut Run) -> Option<Difference> {
+        if run.batch_random.chance(self.batch) {
+            let model = self.pair.reference.model();
+            let model = model.unwrap_or(&self.case.start);
+            let batch = asked::batch(model, &mut run.batch_random);
+            let difference = self.take(run.tally, Step::Batch(batch));
+            if difference.is_some() {
+                return difference;
+            }
+        }
         while run.queue_random.chance(self.queue) {
             let difference = match run.queue_random.below(100) {
                 0..=5 => self.damage_queue(run),
@@ -467,15 +509,17 @@ impl<B: Broker> Session<'_, B> {
             .or_else(|| (0..5).find_map(|_| self.random_step(run)))
     }
 
-    /// Posts a request, takes a turn and makes every call once, with arguments for tables that show a model.
+    /// Posts a request, takes a turn, asks a batch and makes every call once, with arguments for tables that show a
+    /// model.
     fn every_call(&mut self, run: &mut Run, model: &Model, odds: &[Odd]) -> Option<Difference> {
         let post = Event::Post {
             slot: run.queue_random.below(SLOTS as u64),
             request: access_request(model, &mut run.queue_random),
         };
         let events = [post, Event::Turn].map(Step::Queue).into_iter();
+        let batch = Step::Batch(asked::batch(model, &mut run.batch_random));
         let calls = every_call(model, &mut run.random).into_iter();
-        let mut steps = events.chain(calls.map(Step::Call));
+        let mut steps = events.chain([batch]).chain(calls.map(Step::Call));
         steps.find_map(|step| {
             run.tally.count_odd(odds, &step);
             self.take(run.tally, step)

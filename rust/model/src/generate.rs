@@ -34,6 +34,18 @@ pub fn access_request(model: &Model, random: &mut Random) -> Request {
     Choose { model, random }.request()
 }
 
+/// A random call that a batch may ask about, for tables that show a model.
+pub fn asked_call(model: &Model, random: &mut Random) -> Call {
+    let mut choose = Choose { model, random };
+    match choose.random.below(10) {
+        0 | 1 => choose.access(),
+        2 => choose.port(),
+        3 | 4 => choose.link(),
+        5..=7 => choose.rename(),
+        _ => choose.exchange(),
+    }
+}
+
 /// A random call of every name, `fresh` the last.
 pub fn every_call(model: &Model, random: &mut Random) -> Vec<Call> {
     let mut choose = Choose { model, random };

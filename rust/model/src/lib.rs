@@ -3,11 +3,13 @@
 //!
 //! The model is [`state`] with the calls in [`rulesets`], [`threads`], [`judge`], [`scopes`], [`tree`]
 //! and [`names`], and what a refused verdict names in [`denial`]; [`tables`] and [`sound`] convert
-//! between it and cells. Beside the tables stands the [`queue`]. The comparison is [`compare`], fed by [`start`], [`generate`], [`paths`],
+//! between it and cells. Many verdicts at once are asked for in a [`batch`]. Beside the tables stands the [`queue`].
+//! The comparison is [`compare`], fed by [`start`], [`generate`], [`paths`],
 //! [`damage`], [`odd`] and [`attributes`], and by [`long_run`] with very many calls on the same tables; a
 //! difference is made short by [`shrink`] and printed by [`scenario`].
 
 pub mod attributes;
+pub mod batch;
 pub mod call;
 pub mod compare;
 pub mod damage;

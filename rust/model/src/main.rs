@@ -14,8 +14,8 @@ const HELP: &str = "\
 usage: model compare [--seed N] [--calls N] [--seconds N] [--long N]
 
 Drives the proved core and the model through attributes of every length and through random lists of
-calls, posts and turns, from random tables and queues, sound and damaged, and compares the reply and
-every cell after every call.
+calls, posts, turns and batches, from random tables and queues, sound and damaged, and compares the
+reply and every cell after every call.
 Then threads of the same tables are cloned, restricted and ended very often; there the replies are
 compared after every call and the cells after every 100.
 

@@ -1,5 +1,6 @@
 //! The proved core as a broker, and beside the model.
 
+use crate::batch::Batch;
 use crate::call::{Broker, Call, Reply};
 use crate::queue::cells::QueueCells;
 use crate::queue::Request;
@@ -28,6 +29,13 @@ impl Broker for Core {
 
     fn turn(&mut self, queue: &mut QueueCells, tables: &Tables) -> u64 {
         skeinrabbit_sys::turn(shared_cells(tables), &mut queue_cells(queue))
+    }
+
+    fn batch(&mut self, tables: &mut Tables, batch: &Batch) -> Reply {
+        let mut report = batch.answers.clone();
+        let tables = shared_cells(tables);
+        let number = skeinrabbit_sys::batch(tables, &batch.requests, &batch.names, &mut report);
+        Reply { number, report }
     }
 }
 
@@ -70,6 +78,15 @@ impl Broker for Both {
         let model = Rereading.turn(&mut by_model, tables);
         let core = Core.turn(queue, tables);
         assert_eq!((core, &*queue), (model, &by_model));
+        core
+    }
+
+    fn batch(&mut self, tables: &mut Tables, batch: &Batch) -> Reply {
+        let before = tables.clone();
+        let model = Rereading.batch(tables, batch);
+        let core = Core.batch(tables, batch);
+        assert_eq!(core, model, "core and model answer differently: {batch:?}");
+        assert!(*tables == before, "cells change: {batch:?}");
         core
     }
 }

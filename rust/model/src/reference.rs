@@ -1,5 +1,6 @@
 //! The model as a broker over tables: it keeps its state from call to call.
 
+use crate::batch::Batch;
 use crate::call::{Broker, Call, Reply};
 use crate::compare::Step;
 use crate::damage::Poke;
@@ -46,6 +47,7 @@ impl Reference {
             Step::Damage(pokes) => self.damage(pokes),
             Step::Resize { table, length } => self.resize(*table, *length),
             Step::Queue(event) => drop(self.queue_event(event)),
+            Step::Batch(_) => {}
         }
     }
 
@@ -82,6 +84,11 @@ impl Reference {
         let queue = self.queue.decode().ok()?;
         let request = queue.slots[queue.next()?].request;
         Some(answered(self.model.as_ref().ok(), request).0)
+    }
+
+    /// What a batch answers, and every cell for its answers.
+    pub fn batch(&self, batch: &Batch) -> (Answer, Vec<u64>) {
+        batch.answer(self.model.as_ref().ok())
     }
 
     /// Answers a call and writes every cell anew.

@@ -52,7 +52,7 @@ impl Errno {
     ];
 
     /// How a call returns the error: 2^64 minus its number.
-    pub fn returned(self) -> u64 {
+    pub const fn returned(self) -> u64 {
         (self as u64).wrapping_neg()
     }
 }
@@ -161,6 +161,14 @@ refusals! {
     NoSuchSlot EINVAL;
     /// A request waits in the slot.
     SlotWaiting EAGAIN;
+    /// A list of requests ends within one.
+    RaggedRequests EINVAL;
+    /// A request of none of the five sorts.
+    UnknownSort EINVAL;
+    /// Too little room for the answers of a batch.
+    TooFewAnswers EINVAL;
+    /// The name of a request is no part of the names.
+    NameOutside EINVAL;
 }
 
 /// The number a call succeeds with, or why it is refused.

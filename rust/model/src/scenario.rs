@@ -1,5 +1,6 @@
 //! A case as a scenario file, with what the two sides answered.
 
+use crate::batch::{Asked, Batch};
 use crate::call::{Call, Reply, UNWRITTEN};
 use crate::compare::{Case, Difference, Step};
 use crate::damage::Poke;
@@ -50,14 +51,42 @@ fn step_lines(step: &Step, reference: &mut Reference) -> Vec<String> {
             )]
         }
         Step::Queue(event) => vec![event_line(event, reference)],
+        Step::Batch(batch) => batch_lines(batch, reference),
     }
+}
+
+/// The lines of a batch: each request with the model's answer, or why they are refused.
+fn batch_lines(batch: &Batch, reference: &Reference) -> Vec<String> {
+    let room = format!("# a batch with {} cells for answers", batch.answers.len());
+    let lines = match batch.asked() {
+        Ok(asked) => {
+            let asked = asked.iter();
+            asked
+                .flat_map(|asked| asked_lines(asked, reference))
+                .collect()
+        }
+        Err(refusal) => {
+            let (requests, errno) = (&batch.requests, refusal.errno());
+            vec![format!(
+                "# of requests {requests:?} => {errno:?} {refusal:?}"
+            )]
+        }
+    };
+    [room].into_iter().chain(lines).collect()
+}
+
+fn asked_lines(asked: &Asked, reference: &Reference) -> Vec<String> {
+    let (answer, [_, report @ ..]) = asked.answer(reference.model().ok());
+    let outside = asked.name_outside;
+    let outside = outside.then(|| "# the name of this request is no part of the names".to_string());
+    let line = answered_line(&asked.call, &answer_word(answer), &report);
+    outside.into_iter().chain([format!("ask {line}")]).collect()
 }
 
 /// The line of something that happens to the queue of the model; a post or a turn with its answer, a turn
 /// with what it answered the slot, too.
 fn event_line(event: &Event, reference: &mut Reference) -> String {
     let answer = reference.queue_event(event).unwrap_or(Ok(0));
-    let refused = |refusal: Refusal| format!("{:?}", refusal.errno());
     match *event {
         Event::Post { slot, request } => {
             let Request {
@@ -65,14 +94,14 @@ fn event_line(event: &Event, reference: &mut Reference) -> String {
                 entry,
                 rights,
             } = request;
-            let answer = answer.map_or_else(refused, |number| number.to_string());
+            let answer = answer_word(answer);
             format!("post {slot} {thread} {entry} {rights} => {answer}")
         }
         Event::Turn => {
             let answer = match answer {
                 Ok(IDLE) => "idle".to_string(),
                 Ok(slot) => served_words(reference, slot),
-                Err(refusal) => refused(refusal),
+                Err(_) => answer_word(answer),
             };
             format!("turn => {answer}")
         }
@@ -129,17 +158,22 @@ fn poke_line(poke: &Poke) -> String {
 }
 
 fn call_line(call: &Call, answer: Answer, report: &[u64]) -> String {
+    let makes = ["create_ruleset", "clone", "create", "link"].contains(&call.name());
+    let made = if makes && answer.is_ok() { "new " } else { "" };
+    answered_line(call, &format!("{made}{}", answer_word(answer)), report)
+}
+
+fn answer_word(answer: Answer) -> String {
+    let refused = |refusal: Refusal| format!("{:?}", refusal.errno());
+    answer.map_or_else(refused, |number| number.to_string())
+}
+
+fn answered_line(call: &Call, expected: &str, report: &[u64]) -> String {
     let mut line = call.name().to_string();
     for word in argument_words(call) {
         line.push(' ');
         line += &word;
     }
-    let makes = ["create_ruleset", "clone", "create", "link"].contains(&call.name());
-    let expected = match answer {
-        Ok(number) if makes => format!("new {number}"),
-        Ok(number) => number.to_string(),
-        Err(refusal) => format!("{:?}", refusal.errno()),
-    };
     format!("{line} => {expected}{}", report_words(call, report))
 }
 

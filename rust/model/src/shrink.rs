@@ -1,5 +1,6 @@
 //! Makes a case in which a broker differs from the model as short as it gets.
 
+use crate::batch::{Batch, Sort, REQUEST};
 use crate::call::{Broker, Call};
 use crate::compare::{first_difference, Case, Difference, Step};
 use crate::damage::Poke;
@@ -154,6 +155,7 @@ impl<B: Broker> Shrinker<'_, B> {
             let simpler = match step {
                 Step::Call(call) => simpler_calls(call).into_iter().map(Step::Call).collect(),
                 Step::Queue(event) => simpler_events(event),
+                Step::Batch(batch) => simpler_batches(batch),
                 _ => Vec::new(),
             };
             let taken = simpler.into_iter().any(|step| {
@@ -242,6 +244,54 @@ fn simpler_events(event: &Event) -> Vec<Step> {
     slots
         .chain(requests.map(|request| post(slot, request)))
         .collect()
+}
+
+/// Batches with requests, bytes of names or cells for answers left out, or one cell made smaller.
+fn simpler_batches(batch: &Batch) -> Vec<Step> {
+    let rows = batch.requests.len() / REQUEST;
+    let halves = [rows / 2, rows / 4, rows / 8].into_iter();
+    let halves = halves.filter(|size| *size > 1);
+    let groups = halves.flat_map(|size| (0..rows).step_by(size).map(move |at| (at, size)));
+    let singles = (0..rows).map(|at| (at, 1));
+    let fewer = groups.chain(singles).map(|(at, size)| {
+        let mut batch = batch.clone();
+        let end = rows.min(at + size);
+        drop(batch.requests.drain(REQUEST * at..REQUEST * end));
+        batch
+    });
+    let cells = (0..batch.requests.len()).flat_map(|at| {
+        smaller(batch.requests[at]).map(move |number| {
+            let mut batch = batch.clone();
+            batch.requests[at] = number;
+            batch
+        })
+    });
+    let cut = (0..batch.names.len()).map(|at| without_byte(batch, at));
+    let room = smaller(batch.answers.len() as u64).map(|length| {
+        let mut batch = batch.clone();
+        batch.answers.truncate(length as usize);
+        batch
+    });
+    let simpler = fewer.chain(room).chain(cut).chain(cells);
+    simpler.map(Step::Batch).collect()
+}
+
+/// A batch without a byte of its names; the names of requests are the same parts, without it.
+fn without_byte(batch: &Batch, at: usize) -> Batch {
+    let mut batch = batch.clone();
+    batch.names.remove(at);
+    let at = at as u64;
+    for row in batch.requests.chunks_exact_mut(REQUEST) {
+        let named = Sort::of_number(row[0]).is_some_and(Sort::has_name);
+        if let ([start, length], true) = (&mut row[5..], named) {
+            if at < *start {
+                *start -= 1;
+            } else if at - *start < *length {
+                *length -= 1;
+            }
+        }
+    }
+    batch
 }
 
 /// Calls with one argument made smaller.

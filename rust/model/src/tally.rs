@@ -1,6 +1,7 @@
 //! How often each call got each answer, and which refusals were never met.
 
 use crate::attributes::{Filling, LONGEST};
+use crate::batch::{Batch, Sort, ANSWER};
 use crate::call::Call;
 use crate::compare::Step;
 use crate::odd::Odd;
@@ -8,14 +9,14 @@ use crate::queue::event::Event;
 use crate::queue::IDLE;
 use crate::refusal::{Answer, Refusal};
 use crate::sound::Unsound;
-use crate::state::LAST_LEVEL;
+use crate::state::{Model, LAST_LEVEL};
 use std::collections::{BTreeMap, BTreeSet};
 use std::fmt;
 
 use Refusal::*;
 
 /// The refusals of each call, after the one for tables that aren't sound.
-const REFUSALS: [(&str, &[Refusal]); 24] = [
+const REFUSALS: [(&str, &[Refusal]); 25] = [
     ("fresh", &[WrongLength, UnknownLevel]),
     (
         "create_ruleset",
@@ -211,19 +212,35 @@ const REFUSALS: [(&str, &[Refusal]); 24] = [
         ],
     ),
     ("turn", &[CursorPastEnd, NotEightSlots, UnknownState]),
+    ("batch", &[RaggedRequests, UnknownSort, TooFewAnswers]),
+];
+
+/// The refusals that come after the verdict.
+const LATER: [Refusal; 4] = [
+    DirectoryOverFile,
+    FileOverDirectory,
+    DirectoryNotEmpty,
+    NoFreeEntry,
 ];
 
 /// The calls that tables which aren't sound don't refuse so.
-const WITHOUT_SOUNDNESS: [&str; 4] = ["fresh", "component", "post", "turn"];
+const WITHOUT_SOUNDNESS: [&str; 5] = ["fresh", "component", "post", "turn", "batch"];
 
-/// The names of posts and turns.
-const EVENTS: [&str; 2] = ["post", "turn"];
+/// The names of posts, turns and batches.
+const EVENTS: [&str; 3] = ["post", "turn", "batch"];
 
 /// The lengths of reports, in cells, that are to be met with every answer that says something.
 const REPORTS: [u64; 5] = [0, 1, 2, 3, 5];
 
 /// A call with a report: its name, the length of the report, why it was refused.
 type Report = (&'static str, u64, Option<Refusal>);
+
+/// A request of a batch that was answered so; or 0, although its call is refused so after the verdict.
+#[derive(Clone, Copy, PartialEq, Eq, PartialOrd, Ord)]
+enum AskedAnswer {
+    Answered(Option<Refusal>),
+    LaterRefused(Refusal),
+}
 
 /// The answers counted by call, the damage counted by the clause it breaks, and more that is to be
 /// met.
@@ -237,6 +254,10 @@ pub struct Tally {
     served: BTreeMap<Option<Refusal>, u64>,
     /// Turns where no slot waited.
     idle: u64,
+    /// What batches answered their requests.
+    asked: BTreeMap<(Sort, AskedAnswer), u64>,
+    /// Batches by what is said of their lists.
+    lists: BTreeMap<Lists, u64>,
     /// Calls with a report by its length.
     reports: BTreeMap<Report, u64>,
     damages: BTreeMap<Unsound, u64>,
@@ -269,6 +290,28 @@ impl Tally {
             *self.served.entry(served.err()).or_default() += 1;
         }
         self.idle += u64::from(answer == Ok(IDLE));
+    }
+
+    /// Counts a batch on sound tables, which show a model, or on others.
+    pub fn count_batch(&mut self, batch: &Batch, answer: Answer, model: Option<&Model>) {
+        self.calls += 1;
+        *self.answers.entry(("batch", answer.err())).or_default() += 1;
+        let Ok(asked) = batch.asked() else {
+            return;
+        };
+        let lists = Lists {
+            requests: !asked.is_empty(),
+            answers_past_them: batch.answers.len() > ANSWER * asked.len(),
+        };
+        *self.lists.entry(lists).or_default() += 1;
+        for asked in asked {
+            let (answer, _) = asked.answer(model);
+            let later = answer.ok().and(model);
+            let later = later.and_then(|model| asked.refused_later(model));
+            let answer = AskedAnswer::Answered(answer.err());
+            let answer = later.map_or(answer, AskedAnswer::LaterRefused);
+            *self.asked.entry((asked.sort, answer)).or_default() += 1;
+        }
     }
 
     /// Counts a step on odd tables.
@@ -319,10 +362,15 @@ impl Tally {
         let odds = odds().filter(|odd| !self.odds.contains_key(odd));
         let served = served().filter(|answer| !self.served.contains_key(answer));
         let idle = (self.idle == 0).then(|| "a turn where no slot waits".to_string());
+        let asked = asked().filter(|asked| !self.asked.contains_key(asked));
+        let lists = Lists::ALL.iter();
+        let lists = lists.filter(|lists| !self.lists.contains_key(lists));
         let lines = refusals.map(|(call, refusal)| format!("{call} {}", refusal_text(refusal)));
         lines
             .chain(served.map(|answer| format!("turn that serves, {}", answer_text(answer))))
             .chain(idle)
+            .chain(asked.map(|asked| format!("request of a batch, {}", asked_text(asked))))
+            .chain(lists.map(|lists| format!("batch with {lists:?}")))
             .chain(unbroken.map(|clause| format!("damage {clause:?}")))
             .chain(reports.map(|report| report_text(&report)))
             .chain(odds.map(|(odd, call)| format!("{call} on {odd:?}")))
@@ -381,7 +429,54 @@ fn odds() -> impl Iterator<Item = (Odd, &'static str)> {
         .flat_map(|odd| names().map(move |call| (odd, call)))
 }
 
-/// The names of all calls, of posts and of turns.
+/// The lists of a batch that is not refused.
+#[derive(Clone, Copy, PartialEq, Eq, PartialOrd, Ord, Debug)]
+struct Lists {
+    requests: bool,
+    /// There are cells past the last answer.
+    answers_past_them: bool,
+}
+
+impl Lists {
+    const ALL: [Lists; 4] = [
+        Lists::of(false, false),
+        Lists::of(false, true),
+        Lists::of(true, false),
+        Lists::of(true, true),
+    ];
+
+    const fn of(requests: bool, answers_past_them: bool) -> Lists {
+        Lists {
+            requests,
+            answers_past_them,
+        }
+    }
+}
+
+/// Each sort of requests with what it may be answered, by tables that are not sound, too.
+fn asked() -> impl Iterator<Item = (Sort, AskedAnswer)> {
+    Sort::ALL.into_iter().flat_map(|sort| {
+        let refusals = refusals().filter(move |(call, _)| *call == sort.name());
+        let answers = refusals.map(|(_, refusal)| match refusal {
+            later if LATER.contains(&later) => AskedAnswer::LaterRefused(later),
+            before => AskedAnswer::Answered(Some(before)),
+        });
+        let outside = sort.has_name().then_some(Some(NameOutside));
+        let others = outside.into_iter().chain([None]);
+        let answers = answers.chain(others.map(AskedAnswer::Answered));
+        answers.map(move |answer| (sort, answer))
+    })
+}
+
+fn asked_text((sort, answer): (Sort, AskedAnswer)) -> String {
+    let answer = match answer {
+        AskedAnswer::Answered(answer) => answer_text(answer),
+        AskedAnswer::LaterRefused(refusal) => format!("success before {}", refusal_text(refusal)),
+    };
+    format!("{} {answer}", sort.name())
+}
+
+/// The names of all calls, of posts, turns and batches.
 fn names() -> impl Iterator<Item = &'static str> {
     Call::NAMES.iter().copied().chain(EVENTS)
 }
@@ -409,6 +504,7 @@ impl fmt::Display for Tally {
     fn fmt(&self, f: &mut fmt::Formatter) -> fmt::Result {
         self.write_answers(f)?;
         self.write_served(f)?;
+        self.write_asked(f)?;
         self.write_reports(f)?;
         writeln!(
             f,
@@ -453,6 +549,14 @@ impl Tally {
         writeln!(f, "answers that turns gave to slots:")?;
         for (answer, count) in &self.served {
             writeln!(f, "    {} {count}", answer_text(*answer))?;
+        }
+        Ok(())
+    }
+
+    fn write_asked(&self, f: &mut fmt::Formatter) -> fmt::Result {
+        writeln!(f, "answers of batches to requests:")?;
+        for (asked, count) in &self.asked {
+            writeln!(f, "    {} {count}", asked_text(*asked))?;
         }
         Ok(())
     }

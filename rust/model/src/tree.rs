@@ -36,6 +36,14 @@ impl Needs {
     }
 }
 
+/// What a rename replaces.
+pub enum Replaced {
+    Nothing,
+    /// The source or a hard link of it: nothing changes.
+    Itself,
+    Other(u64),
+}
+
 /// The entries that a call of two directories names.
 struct Named {
     /// The youngest layer of the calling thread's domain.
@@ -80,6 +88,21 @@ impl Model {
     }
 
     pub fn link(&mut self, thread: u64, source: u64, directory: u64, name: &[u8]) -> Answer {
+        let linked = self.link_verdict(thread, source, directory, name)?;
+        let number = self.free_row()?;
+        let parent = directory;
+        self.add_entry(number, Entry { parent, ..linked }, name);
+        Ok(number)
+    }
+
+    /// The checks of a link up to and with its verdict; answers the source.
+    pub fn link_verdict(
+        &self,
+        thread: u64,
+        source: u64,
+        directory: u64,
+        name: &[u8],
+    ) -> Result<Entry, Refusal> {
         let named = self.named(thread, source, directory, None)?;
         self.new_name(directory, name)?;
         let linked = named.source;
@@ -88,31 +111,49 @@ impl Model {
         }
         self.verdict(&named, directory, Needs::of_link(linked.kind))?;
         self.moved_safely(&named, source, directory)?;
-        let number = self.free_row()?;
-        let parent = directory;
-        self.add_entry(number, Entry { parent, ..linked }, name);
-        Ok(number)
+        Ok(linked)
     }
 
     /// Moves an entry to a directory, where it takes a name; the entry that bears it is replaced.
     pub fn rename(&mut self, thread: u64, source: u64, directory: u64, name: &[u8]) -> Answer {
+        self.rename_verdict(thread, source, directory, name)?;
+        match self.replaced(source, directory, name)? {
+            Replaced::Itself => return Ok(0),
+            Replaced::Other(number) => self.free_entry(number),
+            Replaced::Nothing => {}
+        }
+        self.put_entry(source, directory, name);
+        Ok(0)
+    }
+
+    /// The checks of a rename up to and with its verdict.
+    pub fn rename_verdict(
+        &self,
+        thread: u64,
+        source: u64,
+        directory: u64,
+        name: &[u8],
+    ) -> Result<(), Refusal> {
         let named = self.named(thread, source, directory, None)?;
         well_named(name)?;
         self.not_above(source, directory, Refusal::SourceAboveTarget)?;
         let moved = named.source;
         let needs = Needs::of_rename(moved.kind, self.replaced_kind(directory, name));
         self.verdict(&named, directory, needs)?;
-        self.moved_safely(&named, source, directory)?;
-        if let Some(number) = self.names.bearer(directory, name) {
-            let replaced = self.entries[&number];
-            if replaced.object == moved.object {
-                return Ok(0);
-            }
-            self.replaceable(moved, number, replaced)?;
-            self.free_entry(number);
+        self.moved_safely(&named, source, directory)
+    }
+
+    /// What a rename of live entries replaces, if that may be replaced.
+    pub fn replaced(&self, source: u64, directory: u64, name: &[u8]) -> Result<Replaced, Refusal> {
+        let Some(number) = self.names.bearer(directory, name) else {
+            return Ok(Replaced::Nothing);
+        };
+        let (moved, replaced) = (self.entries[&source], self.entries[&number]);
+        if replaced.object == moved.object {
+            return Ok(Replaced::Itself);
         }
-        self.put_entry(source, directory, name);
-        Ok(0)
+        self.replaceable(moved, number, replaced)?;
+        Ok(Replaced::Other(number))
     }
 
     /// The kind of the entry that a rename to a name replaces, if there is one.
@@ -122,6 +163,21 @@ impl Model {
     }
 
     pub fn exchange(&mut self, thread: u64, source: u64, directory: u64, entry: u64) -> Answer {
+        self.exchange_verdict(thread, source, directory, entry)?;
+        if self.entries[&entry].object != self.entries[&source].object {
+            self.swap_entries(source, entry);
+        }
+        Ok(0)
+    }
+
+    /// The checks of an exchange, of which the verdict is the last.
+    pub fn exchange_verdict(
+        &self,
+        thread: u64,
+        source: u64,
+        directory: u64,
+        entry: u64,
+    ) -> Result<(), Refusal> {
         let named = self.named(thread, source, directory, Some(entry))?;
         let parent = named.source.parent;
         self.child_of_target(&named, directory)?;
@@ -139,10 +195,7 @@ impl Model {
         if !self.contained(named.youngest, back) {
             return Err(Refusal::OtherNotContained);
         }
-        if other.object != named.source.object {
-            self.swap_entries(source, entry);
-        }
-        Ok(0)
+        Ok(())
     }
 
     /// The checks that link, rename and exchange share.
@@ -242,7 +295,8 @@ impl Model {
         }
     }
 
-    fn free_row(&self) -> Answer {
+    /// The number of the next new entry.
+    pub fn free_row(&self) -> Answer {
         lowest_free(&self.entries, MAX_ENTRIES).ok_or(Refusal::NoFreeEntry)
     }
 }

@@ -1,5 +1,6 @@
 //! The comparison must find brokers with a deliberate fault, and make the case short.
 
+use model::batch::{Asked, Batch, Sort, ANSWER, REQUEST};
 use model::call::{Broker, Call, Reply, UNWRITTEN};
 use model::compare::{compare, sweep, Case, Difference, Options, Step};
 use model::denial::Denial;
@@ -2015,6 +2016,412 @@ fn queues_that_are_not_sound_and_are_taken_are_found() {
         },
         2,
     );
+}
+
+/// Answers batches otherwise than the model.
+struct Batching<F>(F);
+
+impl<F: Fn(&mut Tables, &Batch) -> Reply> Broker for Batching<F> {
+    fn answer(&mut self, tables: &mut Tables, call: &Call) -> Reply {
+        Rereading.answer(tables, call)
+    }
+
+    fn batch(&mut self, tables: &mut Tables, batch: &Batch) -> Reply {
+        (self.0)(tables, batch)
+    }
+}
+
+/// A wrong batch: a case of it alone, perhaps on damaged tables, or after a few calls from fresh ones, where the sides answer
+/// with these numbers.
+fn found_batch(fault: impl Fn(&mut Tables, &Batch) -> Reply, numbers: [u64; 2]) -> (Batch, String) {
+    let (case, difference) = found(&mut Batching(fault));
+    let text = scenario(&case, &difference);
+    let (last, before) = case.steps.split_last().unwrap();
+    let damage = |step: &Step| matches!(step, Step::Damage(_) | Step::Resize { .. });
+    let alone = before.len() <= 1 && before.iter().all(damage);
+    let fresh = case.start == Model::fresh(case.start.level);
+    assert!(alone || fresh && before.len() <= 8, "{text}");
+    let found = [&difference.broker, &difference.model].map(|reply| reply.number);
+    assert_eq!(found, numbers, "{text}");
+    let Step::Batch(batch) = last else {
+        panic!("{text}");
+    };
+    (batch.clone(), text)
+}
+
+/// Wrong answers to the requests of a batch on sound tables; the case has so many requests.
+fn found_asked(fault: impl Fn(&Model, &[Asked], &mut [u64]), requests: usize) -> (Batch, String) {
+    let fault = |tables: &mut Tables, batch: &Batch| {
+        let mut reply = Rereading.batch(tables, batch);
+        if let (Ok(model), Ok(asked)) = (check(tables), batch.asked()) {
+            fault(&model, &asked, &mut reply.report);
+        }
+        reply
+    };
+    let (batch, text) = found_batch(fault, [0, 0]);
+    assert_eq!(batch.requests.len(), REQUEST * requests, "{text}");
+    (batch, text)
+}
+
+#[test]
+fn answers_that_are_written_before_einval_are_found() {
+    let written = |refused: Refusal| {
+        move |tables: &mut Tables, batch: &Batch| {
+            let mut reply = Rereading.batch(tables, batch);
+            if batch.asked().err() == Some(refused) {
+                let sorts = batch.requests.chunks_exact(REQUEST);
+                let known = sorts.take_while(|row| Sort::of_number(row[0]).is_some());
+                let room = batch.answers.len() / ANSWER;
+                let first = known.count().min(room);
+                let fitting = Batch {
+                    requests: batch.requests[..REQUEST * first].to_vec(),
+                    ..batch.clone()
+                };
+                reply.report = Rereading.batch(tables, &fitting).report;
+            }
+            reply
+        }
+    };
+    for refused in [
+        Refusal::RaggedRequests,
+        Refusal::UnknownSort,
+        Refusal::TooFewAnswers,
+    ] {
+        found_batch(written(refused), [EINVAL; 2]);
+    }
+}
+
+#[test]
+fn batches_that_are_not_refused_are_found() {
+    // What follows the last whole request is left out.
+    let ragged = |tables: &mut Tables, batch: &Batch| {
+        let whole = batch.requests.len() / REQUEST * REQUEST;
+        let requests = batch.requests[..whole].to_vec();
+        Rereading.batch(
+            tables,
+            &Batch {
+                requests,
+                ..batch.clone()
+            },
+        )
+    };
+    found_batch(ragged, [0, EINVAL]);
+    // Of the sort its last byte is read.
+    let last_byte = |tables: &mut Tables, batch: &Batch| {
+        let mut batch = batch.clone();
+        let rows = batch.requests.chunks_exact_mut(REQUEST);
+        rows.for_each(|row| row[0] &= 255);
+        Rereading.batch(tables, &batch)
+    };
+    found_batch(last_byte, [0, EINVAL]);
+    // The answers that fit are given.
+    let fitting = |tables: &mut Tables, batch: &Batch| {
+        let room = batch.answers.len() / ANSWER;
+        let mut batch = batch.clone();
+        if batch.asked().err() == Some(Refusal::TooFewAnswers) {
+            batch.requests.truncate(REQUEST * room);
+        }
+        Rereading.batch(tables, &batch)
+    };
+    found_batch(fitting, [0, EINVAL]);
+}
+
+#[test]
+fn batches_that_are_refused_for_nothing_are_found() {
+    let empty = |tables: &mut Tables, batch: &Batch| {
+        let mut reply = Rereading.batch(tables, batch);
+        if batch.requests.is_empty() {
+            reply.number = EINVAL;
+        }
+        reply
+    };
+    found_batch(empty, [EINVAL, 0]);
+    let exact = |tables: &mut Tables, batch: &Batch| {
+        if batch.answers.len() / ANSWER > batch.requests.len() / REQUEST {
+            let report = batch.answers.clone();
+            return Reply {
+                number: EINVAL,
+                report,
+            };
+        }
+        Rereading.batch(tables, batch)
+    };
+    found_batch(exact, [EINVAL, 0]);
+}
+
+#[test]
+fn unsound_tables_that_a_batch_refuses_are_found() {
+    let eio = Errno::EIO.returned();
+    let refused = |first: bool| {
+        move |tables: &mut Tables, batch: &Batch| {
+            if check(tables).is_err() && (first || batch.asked().is_ok()) {
+                let report = batch.answers.clone();
+                return Reply {
+                    number: Errno::EIO.returned(),
+                    report,
+                };
+            }
+            Rereading.batch(tables, batch)
+        }
+    };
+    found_batch(refused(false), [eio, 0]);
+    // Also before the batch's own refusals.
+    let before = refused(true);
+    let only_before = |tables: &mut Tables, batch: &Batch| match batch.asked() {
+        Ok(_) => Rereading.batch(tables, batch),
+        Err(_) => before(tables, batch),
+    };
+    found_batch(only_before, [eio, EINVAL]);
+    // Only the first answer is EIO.
+    let first = |tables: &mut Tables, batch: &Batch| {
+        let mut reply = Rereading.batch(tables, batch);
+        if check(tables).is_err() && reply.number == 0 && !batch.requests.is_empty() {
+            reply.report[ANSWER..].copy_from_slice(&batch.answers[ANSWER..]);
+        }
+        reply
+    };
+    found_batch(first, [0, 0]);
+}
+
+#[test]
+fn later_checks_that_a_batch_answers_are_found() {
+    for later in [
+        Refusal::DirectoryOverFile,
+        Refusal::FileOverDirectory,
+        Refusal::DirectoryNotEmpty,
+        Refusal::NoFreeEntry,
+    ] {
+        let fault = |model: &Model, asked: &[Asked], answers: &mut [u64]| {
+            for (asked, answer) in asked.iter().zip(answers.chunks_exact_mut(ANSWER)) {
+                if answer[0] == 0 && asked.refused_later(model) == Some(later) {
+                    answer[0] = later.errno() as u64;
+                }
+            }
+        };
+        found_asked(fault, 1);
+    }
+}
+
+#[test]
+fn a_batch_that_stops_at_the_first_refusal_is_found() {
+    let stopping = |tables: &mut Tables, batch: &Batch| {
+        let mut reply = Rereading.batch(tables, batch);
+        if reply.number == 0 {
+            let count = batch.requests.len() / REQUEST;
+            let mut answers = reply.report.chunks_exact(ANSWER).take(count);
+            if let Some(refused) = answers.position(|answer| answer[0] != 0) {
+                let rest = ANSWER * (refused + 1);
+                reply.report[rest..].copy_from_slice(&batch.answers[rest..]);
+            }
+        }
+        reply
+    };
+    let (batch, text) = found_batch(stopping, [0, 0]);
+    assert_eq!(batch.requests.len(), 2 * REQUEST, "{text}");
+}
+
+#[test]
+fn layers_of_another_request_are_found() {
+    // What was named for the last refused request stays.
+    let kept = |_: &Model, asked: &[Asked], answers: &mut [u64]| {
+        let mut last = [0; 2];
+        for answer in answers.chunks_exact_mut(ANSWER).take(asked.len()) {
+            if answer[1] == 0 {
+                answer[1..].copy_from_slice(&last);
+            }
+            last.copy_from_slice(&answer[1..]);
+        }
+    };
+    found_asked(kept, 2);
+    // The layer's set is that of the request before, where both name the layer.
+    let set = |_: &Model, asked: &[Asked], answers: &mut [u64]| {
+        let mut last = [0; 2];
+        for answer in answers.chunks_exact_mut(ANSWER).take(asked.len()) {
+            let named = [answer[1], answer[2]];
+            if last[0] == named[0] {
+                answer[2] = last[1];
+            }
+            last = named;
+        }
+    };
+    found_asked(set, 2);
+    // The layer's number without 1 added.
+    let number = |_: &Model, asked: &[Asked], answers: &mut [u64]| {
+        for answer in answers.chunks_exact_mut(ANSWER).take(asked.len()) {
+            answer[1] = answer[1].saturating_sub(1);
+        }
+    };
+    found_asked(number, 1);
+}
+
+#[test]
+fn the_domain_of_another_thread_is_found() {
+    // What a layer grants an entry is kept for the whole batch, whichever thread asks.
+    let kept = |model: &Model, asked: &[Asked], answers: &mut [u64]| {
+        let mut first = None;
+        for (asked, answer) in asked.iter().zip(answers.chunks_exact_mut(ANSWER)) {
+            if let Call::Access {
+                thread,
+                entry,
+                rights,
+                report,
+            } = asked.call
+            {
+                let known = answer[0] == 0 || answer[1] != 0;
+                let first = *first.get_or_insert(if known { thread } else { continue });
+                let call = Call::Access {
+                    thread: first,
+                    entry,
+                    rights,
+                    report,
+                };
+                let of_first = Asked {
+                    sort: Sort::Access,
+                    call,
+                    name_outside: false,
+                };
+                if known {
+                    answer.copy_from_slice(&of_first.answer(Some(model)).1);
+                }
+            }
+        }
+    };
+    found_asked(kept, 2);
+}
+
+#[test]
+fn a_batch_that_changes_tables_is_found() {
+    // The changes are made.
+    let making = |tables: &mut Tables, batch: &Batch| {
+        let reply = Rereading.batch(tables, batch);
+        if let (Ok(mut model), Ok(asked)) = (check(tables), batch.asked()) {
+            for asked in &asked {
+                let _ = model.answer(&asked.call);
+            }
+            encode_into(&model, tables);
+        }
+        reply
+    };
+    let (batch, text) = found_batch(making, [0, 0]);
+    assert_eq!(batch.requests.len(), REQUEST, "{text}");
+    // Each request is answered by the tables that the ones before it would leave.
+    let following = |model: &Model, asked: &[Asked], answers: &mut [u64]| {
+        let mut model = model.clone();
+        for (asked, answer) in asked.iter().zip(answers.chunks_exact_mut(ANSWER)) {
+            answer.copy_from_slice(&asked.answer(Some(&model)).1);
+            let _ = model.answer(&asked.call);
+        }
+    };
+    found_asked(following, 2);
+}
+
+#[test]
+fn cells_past_the_last_answer_that_are_written_are_found() {
+    let cleared = |_: &Model, asked: &[Asked], answers: &mut [u64]| {
+        answers[ANSWER * asked.len()..].fill(0);
+    };
+    found_asked(cleared, 0);
+}
+
+#[test]
+fn cells_that_a_sort_does_not_use_and_are_read_are_found() {
+    for (sort, cell) in [
+        (Sort::Access, 4),
+        (Sort::Port, 6),
+        (Sort::Link, 4),
+        (Sort::Rename, 4),
+        (Sort::Exchange, 5),
+    ] {
+        let read = |tables: &mut Tables, batch: &Batch| {
+            let mut reply = Rereading.batch(tables, batch);
+            if reply.number == 0 {
+                let rows = batch.requests.chunks_exact(REQUEST);
+                for (row, answer) in rows.zip(reply.report.chunks_exact_mut(ANSWER)) {
+                    if row[0] == sort as u64 && row[cell] != 0 && answer[0] == 0 {
+                        answer[0] = Errno::EINVAL as u64;
+                    }
+                }
+            }
+            reply
+        };
+        found_batch(read, [0, 0]);
+    }
+}
+
+/// A batch that takes other parts of the names, by their start and length.
+fn found_parts(part: fn(&[u8], u64, u64) -> Vec<u8>) -> (Batch, String) {
+    let fault = |tables: &mut Tables, batch: &Batch| {
+        let mut named = batch.clone();
+        for row in named.requests.chunks_exact_mut(REQUEST) {
+            if Sort::of_number(row[0]).is_some_and(Sort::has_name) {
+                let name = part(&batch.names, row[5], row[6]);
+                row[5] = named.names.len() as u64;
+                row[6] = name.len() as u64;
+                named.names.extend(name);
+            }
+        }
+        Rereading.batch(tables, &named)
+    };
+    let (batch, text) = found_batch(fault, [0, 0]);
+    assert_eq!(batch.requests.len(), REQUEST, "{text}");
+    (batch, text)
+}
+
+/// A part of bytes, if it lies in them.
+fn part(bytes: &[u8], start: u64, length: u64) -> Option<&[u8]> {
+    let end = usize::try_from(start.checked_add(length)?).ok()?;
+    bytes.get(start as usize..end)
+}
+
+#[test]
+fn other_parts_of_the_names_are_found() {
+    // Cut where the names end.
+    found_parts(|names, start, length| {
+        let end = start.saturating_add(length).min(names.len() as u64);
+        part(names, start.min(end), end - start.min(end)).map_or(vec![], <[u8]>::to_vec)
+    });
+    // The end is counted with 64 bits.
+    let (batch, text) = found_parts(|names, start, length| {
+        let end = start.wrapping_add(length) as usize;
+        match part(names, start, length) {
+            Some(name) => name.to_vec(),
+            None if end <= names.len() => b"n".to_vec(),
+            None => Vec::new(),
+        }
+    });
+    let row = &batch.requests;
+    assert_eq!(row[5].checked_add(row[6]), None, "{text}");
+    // A long name outside is too long.
+    let (_, text) = found_parts(|names, start, length| match part(names, start, length) {
+        Some(name) => name.to_vec(),
+        None if length > 48 => vec![b'n'; 49],
+        None => Vec::new(),
+    });
+    assert!(text.contains("=> EINVAL layer=none"), "{text}");
+    // The length is a byte.
+    let (_, text) = found_parts(|names, start, length| match part(names, start, length) {
+        Some(name) => name[..name.len() & 255].to_vec(),
+        None => Vec::new(),
+    });
+    assert!(text.contains("=> ENAMETOOLONG"), "{text}");
+    // The names start one byte later.
+    found_parts(|names, start, length| match part(names, start, length) {
+        Some(_) => part(names, start + 1, length).unwrap_or_default().to_vec(),
+        None => Vec::new(),
+    });
+}
+
+#[test]
+fn a_name_outside_that_is_tested_first_is_found() {
+    let first = |_: &Model, asked: &[Asked], answers: &mut [u64]| {
+        for (asked, answer) in asked.iter().zip(answers.chunks_exact_mut(ANSWER)) {
+            if asked.name_outside {
+                answer[0] = Errno::EINVAL as u64;
+            }
+        }
+    };
+    let (_, text) = found_asked(first, 1);
+    assert!(!text.contains("=> EINVAL"), "{text}");
 }
 
 /// Looks at the first bytes of an attribute alone.

@@ -61,7 +61,8 @@ Format (in full: docs/SCENARIO.md)
   rules an access must read, start=N and length=N which part of its path a
   component must be. A turn answers the slot that it serves, or idle, with
   answer=, layer=, rights= and entries_read= for what it answers there; slot
-  answers empty, waiting or answered, with the same words.
+  answers empty, waiting or answered, with the same words. ask says what the
+  call behind it would answer up to and with its verdict; it makes nothing.
 
   Tables start fresh at level 6, and so does the queue, which fresh leaves
   alone. A number is decimal or hexadecimal (0x1f). An entry, ruleset or thread
@@ -99,6 +100,7 @@ Format (in full: docs/SCENARIO.md)
     exchange THREAD SOURCE PATH
     lookup PATH
     component PATH PLACE
+    ask access | port | link | rename | exchange, with the call's arguments
     post SLOT THREAD ENTRY RIGHTS
     turn
     slot SLOT

@@ -1,13 +1,14 @@
 //! Plays a scenario on the broker.
 use crate::scenario::{
-    Answer, Bad, BadLine, Call, Mask, Masks, Names, Operand, Other, Place, Poked, QueueCall,
-    Report, RulesetBytes, RulesetCall, Scenario, SlotReport, Space, Statement, Text, ThreadCall,
-    TreeCall,
+    Answer, AskedCall, Bad, BadLine, Call, Mask, Masks, Names, Operand, Other, Place, Poked,
+    QueueCall, Report, RulesetBytes, RulesetCall, Scenario, SlotReport, Space, Statement, Text,
+    ThreadCall, TreeCall,
 };
 use crate::words::quoted;
 use skeinrabbit::{
-    component_range, Attribute, Cells, Entry, Errno, Judged, Layer, Level, PortRights, Queue,
-    Refusal, Rights, Rule, Ruleset, Scopes, Slot, SlotState, Table, Tables, Thread, Turn,
+    component_range, Attribute, Batch, Cells, Entry, Errno, Judged, Layer, Level, PortRights,
+    Queue, Refusal, Rights, Rule, Ruleset, Scopes, Slot, SlotState, Table, Tables, Thread, Turn,
+    Verdict,
 };
 
 /// Tables, queue and names as the lines so far left them.
@@ -152,6 +153,14 @@ fn changed(result: Result<(), Refusal<Rights>>) -> Said {
     judged(result.map(|()| Answer::Done), Mask::Files)
 }
 
+/// The answer of a call that was asked about, and which layer refused for which rights.
+fn asked_answer(verdict: Verdict) -> Said {
+    match verdict {
+        Verdict::Fs(answer) => changed(answer),
+        Verdict::Net(answer) => judged(answer.map(|()| Answer::Done), Mask::Ports),
+    }
+}
+
 /// The answer of a change that makes an entry.
 fn made(result: Result<Entry, Refusal<Rights>>) -> Said {
     let answer = result.map(|entry| Answer::New(entry.number()));
@@ -197,6 +206,7 @@ impl Player {
             Call::Lookup { path } => (self.lookup(path), None),
             Call::Component { path, place } => self.component(path, *place, &mut part),
             Call::Queue(call) => self.queue_call(call)?,
+            Call::Ask { thread, call } => self.ask(thread, call)?,
             Call::Poke { poked, writes } => (self.poke(*poked, writes), None),
             Call::PokeName { first, count, name } => (self.poke_name(*first, *count, name), None),
         };
@@ -318,6 +328,35 @@ impl Player {
                 changed(self.tables.exchange(thread, source, directory, entry))
             }
         })
+    }
+
+    /// Asks for a verdict, in a batch of one request.
+    fn ask(&self, thread: &Operand, call: &AskedCall) -> Result<Said, Bad> {
+        let thread = self.thread(thread)?;
+        let mut batch = Batch::new();
+        match call {
+            AskedCall::Access { entry, rights } => {
+                batch.access(thread, self.entry(entry)?, *rights)
+            }
+            AskedCall::Port { port, rights } => batch.port(thread, *port, *rights),
+            AskedCall::Link { source, place } => {
+                let source = self.entry(source)?;
+                let (directory, name) = self.place(place)?;
+                batch.link(thread, source, directory, name)
+            }
+            AskedCall::Rename { source, place } => {
+                let source = self.entry(source)?;
+                let (directory, name) = self.place(place)?;
+                batch.rename(thread, source, directory, name)
+            }
+            AskedCall::Exchange { source, other } => {
+                let source = self.entry(source)?;
+                let (directory, entry) = self.other(other)?;
+                batch.exchange(thread, source, directory, entry)
+            }
+        };
+        let verdict = self.tables.batch(&mut batch).iter().next();
+        Ok(verdict.map_or((Answer::Refused(Errno::EIO), None), asked_answer))
     }
 
     /// The directory and the name that a line gives.

@@ -846,6 +846,48 @@ slot 4 => empty
 }
 
 #[test]
+fn a_call_that_is_asked_about_is_not_made() {
+    let text = "\
+create main /docs directory -> docs
+create main /docs/page regular -> page
+create_ruleset fs=read_file+write_file net=bind_tcp -> rs
+add_path_rule rs docs read_file
+set_no_new_privs main
+restrict main rs
+ask access main page read_file+write_file => EACCES layer=0 rights=write_file
+ask port main 80 bind_tcp => EACCES rights=bind_tcp
+ask rename main page /page => EXDEV
+repeat 3 ask link main page /docs/f\\i => 0
+ask link main page /docs/page
+lookup /docs/f1 => ENOENT
+";
+    let ran = skein_with(&["run", "-v", "-"], text.as_bytes());
+    let expected = "\
+ 7  ask access main page read_file+write_file            EACCES         ok
+        layer 0 denies write_file
+ 8  ask port main 80 bind_tcp                            EACCES         ok
+        layer 0 denies bind_tcp
+ 9  ask rename main page /page                           EXDEV          ok
+        layer 0 denies refer
+10  repeat 3 ask link main page /docs/f\\i                0              ok
+11  ask link main page /docs/page                        EEXIST
+        DIFFERS: must succeed
+        EEXIST: the directory has an entry of that name
+12  lookup /docs/f1                                      ENOENT         ok
+12 calls, 5 expectations, 1 differing: line 11
+";
+    assert!(ran.out.ends_with(expected), "{}", ran.out);
+    assert_eq!(ran.code, 1);
+    let ran = skein_with(&["run", "--json", "-"], text.as_bytes());
+    let calls = json(&ran.out);
+    let port = calls.at("calls").list().get(7).expect("eight calls");
+    assert_eq!(port.at("call").text(), "ask");
+    assert_eq!(port.at("errno").number(), 13);
+    assert_eq!(port.at("layer").number(), 0);
+    assert_eq!(port.at("entries_read"), &Value::Null);
+}
+
+#[test]
 fn refusals_of_the_queue_are_explained() {
     let text = "post 8 main root 8\npoke cursor 0 8\npost 0 main root 8\nturn\npoke cursor 0 7\npoke system 0 7\nclone main\n";
     let ran = skein_with(&["run", "-"], text.as_bytes());

@@ -37,6 +37,10 @@ pub const NAME_WIDTH: usize = 1 + MAX_NAME;
 pub const REQUEST_WIDTH: usize = 3;
 pub const ANSWER_WIDTH: usize = 4;
 
+/// The cells of a batch's request and of its answer.
+pub const BATCH_REQUEST_WIDTH: usize = 7;
+pub const BATCH_ANSWER_WIDTH: usize = 3;
+
 /// The bytes of `names`, which has a row for each entry.
 pub const NAMES_SIZE: usize = NAME_WIDTH * MAX_ENTRIES;
 

@@ -281,6 +281,27 @@ call! {
     )
 }
 
+call! {
+    /// Answers requests of 7 cells, each with 3 cells: what its call would answer on these tables up to and with the verdict. Answers
+    /// EINVAL and writes nothing where a request is of another sort, the list ends within a request, or the answers have too little
+    /// room; else 0.
+    ///
+    /// A request: sort (1 access, 2 port, 3 link, 4 rename, 5 exchange), thread, three numbers, and where its name starts in `names`
+    /// and how long it is. The numbers are entry and rights for an access, port and rights for a port, source and directory for link and
+    /// rename, source, directory and entry for an exchange. Cells that a sort does not use are not read. An answer: error number or 0,
+    /// the layer that refuses (its number + 1, or 0 for none), its rights.
+    batch(tables: SharedCells, requests: &[u64], names: &[u8], answers: &mut [u64]),
+    skein_batch[const const const const const const const]
+    (
+        requests.as_ptr() => *const u64,
+        requests.len() => usize,
+        names.as_ptr() => *const u8,
+        names.len() => usize,
+        answers.as_mut_ptr() => *mut u64,
+        answers.len() => usize
+    )
+}
+
 /// Puts an access request into a slot of a queue, where it waits for a turn.
 pub fn post(queue: &mut QueueCells, slot: u64, thread: u64, entry: u64, rights: u64) -> u64 {
     extern "C" {

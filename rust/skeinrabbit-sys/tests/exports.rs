@@ -65,7 +65,7 @@ fn proved() -> Changes {
 #[test]
 fn tables_are_writable_exactly_where_the_proved_export_writes() {
     let (declared, proved) = (declared(), proved());
-    assert_eq!(declared.len(), 22);
+    assert_eq!(declared.len(), 23);
     for (name, tables) in declared {
         assert_eq!(proved.get(name), Some(&tables), "{name}");
     }
@@ -107,4 +107,21 @@ fn parts_of_a_queue_are_writable_exactly_where_the_proved_export_writes() {
     }
     assert_eq!(proved_queue("post(").len(), 4);
     assert_eq!(proved_queue("turn(").len(), 4);
+}
+
+#[test]
+fn only_the_answers_of_a_batch_are_writable() {
+    let (_, batch) = DECLARED.split_once("skein_batch[").unwrap();
+    let (batch, _) = batch.split_once("\n}").unwrap();
+    for (proved, declared) in [
+        ("requests: &[u64],", "requests.as_ptr() => *const u64,"),
+        ("request_names: &[u8],", "names.as_ptr() => *const u8,"),
+        ("answers: &mut [u64],", "answers.as_mut_ptr() => *mut u64,"),
+    ] {
+        let export = PROVED.split("extern \"C\" fn skein_");
+        let export = export.skip(1).find(|export| export.starts_with("batch("));
+        let (parameters, _) = export.unwrap().split_once(") -> u64").unwrap();
+        assert!(parameters.contains(proved), "{proved}");
+        assert!(batch.contains(declared), "{declared}");
+    }
 }

@@ -1,7 +1,7 @@
 //! The calls that change nothing, on tables in memory that cannot be written: a write would end the program.
 use skeinrabbit_sys::{
-    abstract_socket, access, component, layer_rules, lookup, port, post, signal, turn, QueueCells,
-    SharedCells, NAMES_SIZE, SIZES,
+    abstract_socket, access, batch, component, layer_rules, lookup, port, post, signal, turn,
+    QueueCells, SharedCells, NAMES_SIZE, SIZES,
 };
 
 const fn cells<const N: usize>(first: [u64; 4]) -> [u64; N] {
@@ -200,4 +200,59 @@ fn queues_of_any_length_are_read() {
         assert_eq!(queue.states, [0; 9]);
         assert_eq!(queue.answers, [7; 33]);
     }
+}
+
+/// An access, a port request and, with names, a link and a rename of the root, and an exchange of it.
+static ASKED: [u64; 35] = [
+    1, 0, 0, 8, 9, 9, 9, // granted
+    2, 1, 80, 1, 9, 9, 9, // no such thread
+    3, 0, 0, 0, 9, 0, 4, // the root is not linked
+    4, 0, 1, 0, 9, 0, 4, // no such entry
+    5, 0, 0, 0, 0, 9, 9, // nor exchanged
+];
+static ASKED_NAMES: [u8; 4] = *b"name";
+
+#[test]
+fn a_batch_writes_its_answers_alone() {
+    let mut answers = [7; 17];
+    assert_eq!(batch(FRESH, &ASKED, &ASKED_NAMES, &mut answers), 0);
+    let expected = [0, 3, 16, 2, 16].map(|number| [number, 0, 0]);
+    assert_eq!(answers[..15], expected.concat());
+    assert_eq!(answers[15..], [7; 2]);
+    let mut answers = [7; 2];
+    assert_eq!(batch(FRESH, &[], &[], &mut answers), 0);
+    assert_eq!(batch(FRESH, &[], &[], &mut []), 0);
+    assert_eq!(answers, [7; 2]);
+}
+
+#[test]
+fn a_batch_that_is_refused_writes_nothing() {
+    let mut another_sort = ASKED;
+    another_sort[28] = 6;
+    let mut answers = [7; 15];
+    for (requests, room) in [
+        (&ASKED[..34], 15),
+        (&ASKED[..29], 15),
+        (&another_sort, 15),
+        (&ASKED, 14),
+        (&ASKED, 12),
+        (&ASKED, 0),
+    ] {
+        let room = &mut answers[..room];
+        assert_eq!(batch(FRESH, requests, &ASKED_NAMES, room), EINVAL);
+        assert_eq!(answers, [7; 15]);
+    }
+}
+
+#[test]
+fn unsound_tables_are_every_answer_of_a_batch() {
+    let short = SharedCells { pool: &[], ..FRESH };
+    let mut answers = [7; 16];
+    assert_eq!(batch(short, &ASKED, &ASKED_NAMES, &mut answers), 0);
+    assert_eq!(answers[..15], [[5, 0, 0]; 5].concat());
+    assert_eq!(answers[15], 7);
+    assert_eq!(
+        batch(short, &ASKED, &ASKED_NAMES, &mut answers[..14]),
+        EINVAL
+    );
 }

@@ -124,6 +124,28 @@
 //! # Ok::<(), Errno>(())
 //! ```
 //!
+//! # Many requests at once
+//!
+//! A [`Batch`] asks about many calls on the same tables, accesses, ports and moves, and [`Tables::batch`] answers each with the
+//! refusal of its call up to and with the verdict. Nothing changes, and the tables are tested once: so it takes far less time for
+//! each request than a call does.
+//!
+//! ```
+//! use skeinrabbit::{AccessFs, Batch, Entry, Errno, Kind, Level, Tables, Thread};
+//!
+//! let mut tables = Tables::new(Level::LATEST)?;
+//! let file = tables.create(Thread::MAIN, Entry::ROOT, Kind::REGULAR, "file")?;
+//! let mut batch = Batch::new();
+//! batch
+//!     .access(Thread::MAIN, file, AccessFs::READ_FILE)
+//!     .link(Thread::MAIN, file, Entry::ROOT, "file")
+//!     .rename(Thread::MAIN, file, Entry::ROOT, "other");
+//! let verdicts = tables.batch(&mut batch);
+//! let refused: Vec<Option<Errno>> = verdicts.iter().map(|verdict| verdict.errno()).collect();
+//! assert_eq!(refused, [None, Some(Errno::EEXIST), None]);
+//! # Ok::<(), Errno>(())
+//! ```
+//!
 //! # Numbers
 //!
 //! Entries, rulesets, threads, layers, slots, kinds, levels and sets of rights are numbers with a type of their own. Any number may
@@ -148,6 +170,7 @@
 
 extern crate alloc;
 
+mod batch;
 mod builder;
 mod cells;
 mod errno;
@@ -167,6 +190,7 @@ mod tables;
 mod text;
 mod tree;
 
+pub use batch::{Batch, Request, Verdict, Verdicts};
 pub use builder::{OpenRuleset, RulesetBuilder};
 pub use cells::{Cells, Table};
 pub use errno::Errno;

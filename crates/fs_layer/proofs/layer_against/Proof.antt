@@ -1,5 +1,7 @@
 -- Assumes nothing.
-use Rattle.fs.proofs.Against.{needs-by, crossed-is}
+use Rattle.tables.specs.Layers.{layerAt}
+use Rattle.fs.specs.Against.{compared}
+use Rattle.fs.proofs.Against.{missing-agrees, needs-by, crossed-is}
 use Rattle.fs_layer.proofs.layer_against.Statement.{statement}
 use Rattle.fs_layer.proofs.layer_against.Tie as tie
 
@@ -13,15 +15,16 @@ layer-against-spec =
     (λ c κs. tt)
     (λ c κs. tt)
     (λ c κs. tt)
-    (λ c κs. tt)
     (λ c.
-    let n = c .before in
-    let d2 = n .before .before in
+    let d2 = c .before .before in
     let at2 = d2 .before in
     let d1 = at2 .before .before in
     let at1 = d1 .before in
     let w = at1 .before .compared-rights .ensures in
-    let m = at1 .before .before .before .before .before .args .m in (
-      needs-by _ _ m w (at1 .join .ensures) (d1 .layer-climb .ensures .0) (at2 .join2 .ensures) (d2 .layer-climb2 .ensures .0) (n .needs-against .ensures),
-      crossed-is _ _ m w (at1 .join .ensures) (d1 .layer-climb .ensures .0) (at2 .join2 .ensures) (d2 .layer-climb2 .ensures .0) (c .crossed-against .ensures),
-    )))
+    let a = at1 .before .before .before .before .before .args in
+    let es = a .entries .now in
+    let L = layerAt (a .layers .now) (a .pool .now) (a .l) in
+    let m = a .m in
+    let a1 = missing-agrees es L (m .source) (m .leave .0) (compared m) w (at1 .join .ensures) (d1 .layer-climb .ensures .0) in
+    let a2 = missing-agrees es L (m .target) (m .enter .0) (compared m) w (at2 .join2 .ensures) (d2 .layer-climb2 .ensures .0) in
+    (needs-by es L m a1 a2 (c .held-against .ensures .0), crossed-is es L m a1 a2 (c .held-against .ensures .1))))

@@ -8,6 +8,7 @@ skein-measure-rename-spec =
     tie.close
     (tie.spec
     (λ c κs. tt)
+    (λ c κs. c .before .needs-table .ensures)
     (λ c κs. tt)
     (λ c κs. tt)
     (λ c. let d = c .before in rw (← d .before .rename-move .ensures) (move-is _ _ _ _ _ _ (d .move-denial .ensures) (c .refusal .ensures))))

@@ -8,7 +8,7 @@ pub exchange-spec : {M : Type 1} → statement M
 exchange-spec =
     tie.close
     (tie.spec
-    (λ c κs. tt)
+    (λ c κs. search needs)
     (λ c κs. tt)
     (λ c. search needs)
     (λ c. let r = c .before in told-refused _ _ _ _ _ (r .before .exchange-checks .ensures) _ (r .is-refused .ensures) (c .if1 .taken))

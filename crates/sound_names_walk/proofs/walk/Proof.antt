@@ -9,11 +9,11 @@ use Rattle.sound_names_walk.proofs.walk.Statement.{statement}
 use Rattle.sound_names_walk.proofs.walk.Tie as tie
 
 abbrev Inv-loop : tie.InvT-loop
-Inv-loop entries names links parent e head steps at₀ left₀ at left =
-    (at < maxEntries) × ((Clear entries names links parent e at → Clear entries names links parent e head) × ((f : ℕ) → On links at f → On links head f))
+Inv-loop entries names links parent row head steps at₀ left₀ at left =
+    (at < maxEntries) × ((Clear entries names links parent row at → Clear entries names links parent row head) × ((f : ℕ) → On links at f → On links head f))
 
 abbrev μ-loop : tie.MeasureT-loop
-μ-loop entries names links parent e head steps at₀ left₀ at left = left
+μ-loop entries names links parent row head steps at₀ left₀ at left = left
 
 pub walk-spec : {M : Type 1} → statement M
 unfolding walked
@@ -22,22 +22,22 @@ walk-spec =
     (tie.spec Inv-loop μ-loop
     (λ c. (omega arith, (λ C. C, λ f r. r)))
     (λ c z. absurd (z refl))
-    (λ c κs. let s = c .before .before .before .before .before .before in (s .pre .0, (s .pre .1 .0 .0, c .before .before .loop .inv .0)))
+    (λ c κs. let s = c .before .before .before .before .before .before .before in (s .pre .0, (s .pre .1 .0 .0, c .before .before .loop .inv .0)))
     (λ c.
     let t = c .before .before .before in
     let l = t .before .loop in
-    (l .at, l .inv .1 .1 (l .at) (here (t .loop-test .taken)), same-here _ _ (t .before .before .before .before .before .args .links .now) _ _ (l .at) (c .before .is-same-name .ensures) (c .if2 .taken)))
+    (l .inv .1 .1 (l .at) (here (t .loop-test .taken)), same-here _ _ (t .before .before .before .before .before .before .args .links .now) _ _ (l .at) (c .before .is-same-name .ensures) (c .if2 .taken)))
     (λ c. omega arith)
     (λ c. omega arith)
-    (λ c. omega (arith, c .shared-slice-known4 .given (c .before .before .before .before .before .loop .at)))
+    (λ c. omega (arith, c .shared-slice-known5 .given (c .before .before .before .before .before .loop .at)))
     (λ c. omega arith)
     (λ c. omega arith)
     (λ c.
     let n = c .before .before in
     let t = n .before .before in
     let l = t .before .loop in
-    let s = t .before .before .before .before .before in (
-      node-in _ (s .args .links .now) (s .pre .1 .0 .0) (s .pre .1 .1 .1) (l .at),
+    let s = t .before .before .before .before .before .before in (
+      node-in _ (s .args .links .now) (omega arith) (s .pre .1 .1 .1) (l .at),
       (λ C. l .inv .1 .0 (clear-more _ _ _ _ _ (n .is-same-name .ensures) (c .before .if2 .left) refl C), λ f r. l .inv .1 .1 f (next (t .loop-test .taken) refl r)),
     ))
     (λ c z. let l = c .before .loop in l .inv .1 .0 (clear-end _ _ _ _ _ (c .loop-test .left))))

@@ -1,9 +1,16 @@
 -- Assumes nothing.
+use mathlib.Core.Path.{sym, _∙_}
 use Rattle.tables.proofs.Blames.{name-stop, name-go}
 use Rattle.verdict.proofs.Answers.{move-last}
 use Rattle.tree.specs.Exchange.{exchangeNames, exchangeShape, exchangeVerdict, exchangeChecks}
+use Rattle.tree_moves.proofs.Rows.{rows-possible}
 use Rattle.tree_exchange.proofs.exchange_checks.Statement.{statement}
 use Rattle.tree_exchange.proofs.exchange_checks.Tie as tie
+
+possible-row : tie.Need-exchange-denial-requires
+possible-row c κs =
+    let n = c .before .before in
+    rows-possible .exchange _ _ _ _ _ (n .before .before .before .before .before .before .before .before .pre) (sym (n .before .exchange-names .ensures) ∙ n .if1 .left)
 
 pub exchange-checks-spec : {M : Type 1} → statement M
 unfolding exchangeChecks exchangeNames exchangeShape exchangeVerdict
@@ -16,7 +23,7 @@ exchange-checks-spec =
     (λ c.
     let n = c .before .before in
     name-go _ _ _ _ _ tt (n .before .exchange-names .ensures) (n .if1 .left) (name-stop _ _ _ _ _ tt (c .before .exchange-shape .ensures) (c .if2 .taken)))
-    (λ c κs. tt)
+    possible-row
     (λ c κs. tt)
     (λ c.
     let d = c .before in

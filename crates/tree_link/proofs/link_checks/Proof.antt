@@ -1,10 +1,15 @@
 -- Assumes nothing.
+use mathlib.Core.Path.{sym, _∙_}
 use Rattle.tables.proofs.Blames.{name-stop, name-go, name-last}
 use Rattle.verdict.proofs.Answers.{move-is, move-stop}
 use Rattle.fs.specs.Move.{verdict}
 use Rattle.tree.specs.Link.{linkShape, linkVerdict, linkLater, linkChecks}
+use Rattle.tree_moves.proofs.Rows.{rows-possible}
 use Rattle.tree_link.proofs.link_checks.Statement.{statement}
 use Rattle.tree_link.proofs.link_checks.Tie as tie
+
+possible-row : tie.Need-link-denial-requires
+possible-row c κs = rows-possible .link _ _ _ _ (sym (c .before .link-shape .ensures) ∙ c .if1 .left)
 
 pub link-checks-spec : {M : Type 1} → statement M
 unfolding linkChecks linkShape linkVerdict linkLater verdict
@@ -13,7 +18,7 @@ link-checks-spec =
     (tie.spec
     (λ c κs. tt)
     (λ c. name-stop _ _ _ _ _ tt (c .before .link-shape .ensures) (c .if1 .taken))
-    (λ c κs. tt)
+    possible-row
     (λ c κs. tt)
     (λ c κs. tt)
     (λ c.

@@ -7,5 +7,6 @@ link-denial-spec =
     tie.close
     (tie.spec
     (λ c κs. tt)
+    (λ c κs. let n = c .before in (n .needs-table .ensures, n .before .before .before .before .before .pre))
     (λ c κs. tt)
     (λ c. rw (← c .before .link-move .ensures) (c .move-denial .ensures)))

@@ -10,7 +10,7 @@ move-of-spec =
     (tie.spec
     (λ c κs. tt)
     (λ c κs. tt)
-    (λ c κs. tt)
+    (λ c κs. let p = c .before .before .before .pre in (p .0, rw (c .kind-at .ensures) (p .1)))
     (λ c κs. tt)
     (λ c κs. tt)
     (λ c.

@@ -7,5 +7,6 @@ rename-denial-spec =
     tie.close
     (tie.spec
     (λ c κs. tt)
+    (λ c κs. c .before .needs-table .ensures)
     (λ c κs. tt)
     (λ c. rw (← c .before .rename-move .ensures) (c .move-denial .ensures)))

@@ -30,6 +30,11 @@ pub enum Call {
         place: u64,
     },
     Queue(QueueCall),
+    /// Asks for the verdict of a call, and changes nothing.
+    Ask {
+        thread: Operand,
+        call: AskedCall,
+    },
     /// Writes rows of `names`: of `count` entries from the first on, counted as rounds are.
     PokeName {
         first: u64,
@@ -106,6 +111,16 @@ pub enum ThreadCall {
 pub enum TreeCall {
     Create { place: Place, kind: Kind },
     Remove { entry: Operand },
+    Link { source: Operand, place: Place },
+    Rename { source: Operand, place: Place },
+    Exchange { source: Operand, other: Other },
+}
+
+/// A thread's call that a batch asks about.
+#[derive(Debug, PartialEq, Eq)]
+pub enum AskedCall {
+    Access { entry: Operand, rights: Rights },
+    Port { port: u64, rights: PortRights },
     Link { source: Operand, place: Place },
     Rename { source: Operand, place: Place },
     Exchange { source: Operand, other: Other },

@@ -1,7 +1,7 @@
 //! How each call is written.
 use super::arguments::{number, Arguments};
 use super::attribute::create_ruleset;
-use super::call::{Call, Other, Place, QueueCall, RulesetCall, ThreadCall, TreeCall};
+use super::call::{AskedCall, Call, Other, Place, QueueCall, RulesetCall, ThreadCall, TreeCall};
 use super::names::{Operand, Space};
 use super::poke::{poke, poke_name};
 use super::report::Sort;
@@ -88,11 +88,58 @@ static FORMS: [Form; 28] = [
     form("poke TABLE CELL VALUE [COUNT STEP RISE]", None, poke),
 ];
 
+const ASK: &str = "ask";
+const ASK_LINK: &str = "ask link THREAD SOURCE DIRECTORY NAME` or `ask link THREAD SOURCE PATH";
+const ASK_RENAME: &str =
+    "ask rename THREAD SOURCE DIRECTORY NAME` or `ask rename THREAD SOURCE PATH";
+const ASK_EXCHANGE: &str =
+    "ask exchange THREAD SOURCE DIRECTORY ENTRY` or `ask exchange THREAD SOURCE PATH";
+
+/// The calls that may stand after `ask`.
+static ASKED: [Form; 5] = [
+    judged(
+        "ask access THREAD ENTRY RIGHTS",
+        None,
+        Sort::Change,
+        ask_access,
+    ),
+    judged("ask port THREAD PORT RIGHTS", None, Sort::Port, ask_port),
+    judged(ASK_LINK, None, Sort::Change, ask_link),
+    judged(ASK_RENAME, None, Sort::Change, ask_rename),
+    judged(ASK_EXCHANGE, None, Sort::Change, ask_exchange),
+];
+
 impl Form {
     /// The call's name.
     pub fn name(&self) -> &'static str {
         self.usage.split(' ').next().unwrap_or_default()
     }
+
+    /// The name of the call that is asked about.
+    fn asked(&self) -> &'static str {
+        self.usage.split(' ').nth(1).unwrap_or_default()
+    }
+}
+
+/// The form of a call, by its name.
+fn form_of(name: &str, arguments: &mut Arguments) -> Result<&'static Form, Bad> {
+    if name != ASK {
+        let form = FORMS.iter().find(|form| form.name() == name);
+        let names = FORMS.iter().map(Form::name).chain([ASK, "repeat"]);
+        return form.ok_or_else(|| unknown("a call", name, names));
+    }
+    let Some(asked) = arguments.next() else {
+        let expected = "access, port, link, rename or exchange after `ask`";
+        return Err(Bad::new("no call", expected));
+    };
+    let form = ASKED.iter().find(|form| form.asked() == asked);
+    let names = ASKED.iter().map(Form::asked);
+    form.ok_or_else(|| unknown("a call that is asked about", asked, names))
+}
+
+/// A word that is no name of what was expected.
+fn unknown(what: &str, word: &str, names: impl Iterator<Item = &'static str>) -> Bad {
+    Bad::word(word, one_of(what, word, &names.collect::<Vec<&str>>()))
 }
 
 /// Reads a call and its arguments.
@@ -100,10 +147,7 @@ pub fn parse(arguments: &mut Arguments) -> Result<(&'static Form, Call), Bad> {
     let Some(name) = arguments.next() else {
         return Err(Bad::new("no call", "a call before `->` or `=>`"));
     };
-    let Some(form) = FORMS.iter().find(|form| form.name() == name) else {
-        let names: Vec<&str> = FORMS.iter().map(Form::name).chain(["repeat"]).collect();
-        return Err(Bad::word(name, one_of("a call", name, &names)));
-    };
+    let form = form_of(name, arguments)?;
     arguments.set_usage(form.usage);
     let call = (form.read)(arguments)?;
     arguments.end()?;
@@ -246,26 +290,36 @@ fn remove(arguments: &mut Arguments) -> Result<Call, Bad> {
     Ok(Call::Tree { thread, call })
 }
 
-fn link(arguments: &mut Arguments) -> Result<Call, Bad> {
-    let thread = arguments.thread()?;
+/// The source of a link or a rename, and where it is put.
+fn moved(arguments: &mut Arguments) -> Result<(Operand, Place), Bad> {
     let source = arguments.entry()?;
     let word = arguments.word()?;
-    let place = place(arguments, word)?;
+    Ok((source, place(arguments, word)?))
+}
+
+fn link(arguments: &mut Arguments) -> Result<Call, Bad> {
+    let thread = arguments.thread()?;
+    let (source, place) = moved(arguments)?;
     let call = TreeCall::Link { source, place };
     Ok(Call::Tree { thread, call })
 }
 
 fn rename(arguments: &mut Arguments) -> Result<Call, Bad> {
     let thread = arguments.thread()?;
-    let source = arguments.entry()?;
-    let word = arguments.word()?;
-    let place = place(arguments, word)?;
+    let (source, place) = moved(arguments)?;
     let call = TreeCall::Rename { source, place };
     Ok(Call::Tree { thread, call })
 }
 
 fn exchange(arguments: &mut Arguments) -> Result<Call, Bad> {
     let thread = arguments.thread()?;
+    let (source, other) = exchanged(arguments)?;
+    let call = TreeCall::Exchange { source, other };
+    Ok(Call::Tree { thread, call })
+}
+
+/// The source of an exchange, and the other entry.
+fn exchanged(arguments: &mut Arguments) -> Result<(Operand, Other), Bad> {
     let source = arguments.entry()?;
     let directory = arguments.entry()?;
     let other = match (arguments.next(), directory) {
@@ -276,8 +330,46 @@ fn exchange(arguments: &mut Arguments) -> Result<Call, Bad> {
         (None, Operand::Path(path)) => Other::Path(path),
         (None, _) => return Err(arguments.too_few()),
     };
-    let call = TreeCall::Exchange { source, other };
-    Ok(Call::Tree { thread, call })
+    Ok((source, other))
+}
+
+fn ask_access(arguments: &mut Arguments) -> Result<Call, Bad> {
+    let thread = arguments.thread()?;
+    let call = AskedCall::Access {
+        entry: arguments.entry()?,
+        rights: arguments.value()?,
+    };
+    Ok(Call::Ask { thread, call })
+}
+
+fn ask_port(arguments: &mut Arguments) -> Result<Call, Bad> {
+    let thread = arguments.thread()?;
+    let call = AskedCall::Port {
+        port: arguments.number("a port")?,
+        rights: arguments.value()?,
+    };
+    Ok(Call::Ask { thread, call })
+}
+
+fn ask_link(arguments: &mut Arguments) -> Result<Call, Bad> {
+    let thread = arguments.thread()?;
+    let (source, place) = moved(arguments)?;
+    let call = AskedCall::Link { source, place };
+    Ok(Call::Ask { thread, call })
+}
+
+fn ask_rename(arguments: &mut Arguments) -> Result<Call, Bad> {
+    let thread = arguments.thread()?;
+    let (source, place) = moved(arguments)?;
+    let call = AskedCall::Rename { source, place };
+    Ok(Call::Ask { thread, call })
+}
+
+fn ask_exchange(arguments: &mut Arguments) -> Result<Call, Bad> {
+    let thread = arguments.thread()?;
+    let (source, other) = exchanged(arguments)?;
+    let call = AskedCall::Exchange { source, other };
+    Ok(Call::Ask { thread, call })
 }
 
 fn lookup(arguments: &mut Arguments) -> Result<Call, Bad> {

@@ -12,7 +12,8 @@ mod text;
 
 pub use answer::{Answer, Expected, ExpectedAnswer};
 pub use call::{
-    Call, Masks, Other, Place, QueueCall, RulesetBytes, RulesetCall, ThreadCall, TreeCall,
+    AskedCall, Call, Masks, Other, Place, QueueCall, RulesetBytes, RulesetCall, ThreadCall,
+    TreeCall,
 };
 pub use names::{Names, Operand, Space};
 pub use poke::Poked;

@@ -361,6 +361,43 @@ fn slots_and_turns_are_read() {
 }
 
 #[test]
+fn requests_are_read() {
+    let ask = |call| Call::Ask {
+        thread: name("main"),
+        call,
+    };
+    let read = |line: &str| statement(line).call;
+    let (entry, rights) = (path("/docs"), Rights::READ_DIR);
+    let call = ask(AskedCall::Access { entry, rights });
+    assert_eq!(read("ask access main /docs read_dir"), call);
+    let rights = PortRights::BIND_TCP;
+    let call = ask(AskedCall::Port { port: 80, rights });
+    assert_eq!(read("ask port main 80 bind_tcp"), call);
+    let place = || Place::Path(Text::parse("/b").unwrap());
+    let source = || path("/a");
+    let call = ask(AskedCall::Link {
+        source: source(),
+        place: place(),
+    });
+    assert_eq!(read("ask link main /a /b"), call);
+    let call = ask(AskedCall::Rename {
+        source: source(),
+        place: place(),
+    });
+    assert_eq!(read("repeat 2 ask rename main /a /b"), call);
+    let other = Other::In {
+        directory: name("root"),
+        entry: Operand::Number(1),
+    };
+    let source = source();
+    let call = ask(AskedCall::Exchange { source, other });
+    let line = statement("ask exchange main /a root 1 => EXDEV layer=0 rights=refer");
+    assert_eq!((line.call, line.name), (call, "ask"));
+    let line = statement("ask port main 80 1 => EACCES rights=bind_tcp");
+    assert!(line.names_an_answer() && line.binds.is_none());
+}
+
+#[test]
 fn a_line_may_name_what_a_turn_answers() {
     let slot = |answer| SlotReport {
         slot: Slot::new(3),
@@ -712,6 +749,29 @@ const MISTAKES: &[(&str, &str, &str)] = &[
     ("turn => 0 answer=x", "`x`", "0, an error's negated number"),
     ("post 0 main root 4 => 0 answer=0", "`answer=0`", "the end"),
     ("slot 8", "`8`", "a slot from 0 to 7"),
+    ("ask", "no call", "access, port, link, rename or exchange"),
+    (
+        "ask clone main",
+        "`clone`",
+        "asked about: access, port, link",
+    ),
+    ("ask renam main 1 2", "`renam`", "perhaps `rename`"),
+    (
+        "ask link main 1",
+        "too few words",
+        "`ask link THREAD SOURCE",
+    ),
+    (
+        "ask access main root 4 5",
+        "`5`",
+        "no more than `ask access",
+    ),
+    ("ask link main 1 /a -> b", "`->`", "it only after"),
+    (
+        "ask access main root 4 => 0 entries_read=0",
+        "`entries_read=0`",
+        "layer=, rights= or the end",
+    ),
     ("slot 0 => waits", "`waits`", "`idle`, a slot's state"),
     ("fresh_queue 6", "`6`", "no more than `fresh_queue`"),
     ("set_admin main yes", "`yes`", "`on`, `off` or a number"),

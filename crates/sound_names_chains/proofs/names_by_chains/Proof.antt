@@ -9,8 +9,8 @@ use Rattle.access.specs.Limits.{maxEntries}
 use Rattle.sound_names_chains.specs.Chains.{told}
 use Rattle.sound_names_chains.proofs.Index.{index-none}
 use Rattle.sound_names_chains.proofs.Told.{Done, done-more, done-all, done-rows, done-fails}
-use Rattle.sound_names_chains.proofs.add_entries.Statement.{statement}
-use Rattle.sound_names_chains.proofs.add_entries.Tie as tie
+use Rattle.sound_names_chains.proofs.names_by_chains.Statement.{statement}
+use Rattle.sound_names_chains.proofs.names_by_chains.Tie as tie
 
 abbrev Inv-loop : tie.InvT-loop
 Inv-loop entries names heads₀ links₀ left₀ e₀ heads links left e =
@@ -19,9 +19,9 @@ Inv-loop entries names heads₀ links₀ left₀ e₀ heads links left e =
 abbrev μ-loop : tie.MeasureT-loop
 μ-loop entries names heads₀ links₀ left₀ e₀ heads links left e = maxEntries - e
 
-pub add-entries-spec : {M : Type 1} → statement M
+pub names-by-chains-spec : {M : Type 1} → statement M
 unfolding told
-add-entries-spec =
+names-by-chains-spec =
     tie.close
     (tie.spec Inv-loop μ-loop
     (λ c. let s = c .before .before .before .before in ((omega arith, (all-none _, λ z. (all-none _, index-none _ _ (s .pre .1 .0) (s .pre .1 .1)))), (refl, refl)))

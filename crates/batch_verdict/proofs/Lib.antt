@@ -1,0 +1,3 @@
+-- The laws of a verdict by kept rows.
+pub mod Walks
+pub mod Ready

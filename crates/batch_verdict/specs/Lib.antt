@@ -1,0 +1,2 @@
+-- The verdict of a domain by kept rows.
+pub mod Batch

@@ -1,0 +1,3 @@
+-- The laws of kept rows.
+pub mod Kept
+pub mod Ready

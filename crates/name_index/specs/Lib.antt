@@ -1,0 +1,2 @@
+-- A name as it stands in the table.
+pub mod Row

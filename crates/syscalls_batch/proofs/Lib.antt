@@ -1,0 +1,2 @@
+-- The outcome of a batch.
+pub mod Outcome
