@@ -365,7 +365,7 @@ const NEEDS: [u32; NEEDS_ROWS] = [
     0x1020_1020,
 ];
 
-// The table, to be lent where needs are asked for: a copy, made once for a call or for a batch of requests.
+// The table, to be passed on where needs are asked for: a copy, made once for a call or for a batch of requests.
 pub fn needs_table() -> [u32; NEEDS_ROWS]
     ensures { λ r. ⌜ NeedsTable r ⌝ }
 {

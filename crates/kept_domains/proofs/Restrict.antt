@@ -67,28 +67,24 @@ pub room-exact : (T : Tables) (r : ℕ) → Sound T
 unfolding noRoom
 room-exact T r S = rw (S .layers .counted, S .layers .filled) refl
 
--- ---- the counters
-module _ (sys : List ℕ) (n : ℕ) where
-  abbrev one : List ℕ
-  one = set sys 2 (layersUsed sys + 1)
+-- ---- both counters set: layers and pool rules in use
+module _ (sys : List ℕ) (a b : ℕ) where
+  abbrev both : List ℕ
+  both = set (set sys 2 a) 3 b
 
-  counted-length : length (counted sys n) ≡ length sys
-  unfolding counted
-  counted-length = simp (length-set)
+  pub both-length : length both ≡ length sys
+  both-length = simp (length-set)
 
   -- the level and the next object number
-  counted-other : (k : ℕ) → k < 2 → getD (counted sys n) k 0 ≡ getD sys k 0
-  unfolding counted
-  counted-other k h = getD-set-other one 3 k (poolUsed sys + n) 0 (λ e. omega arith) ∙ getD-set-other sys 2 k (layersUsed sys + 1) 0 (λ e. omega arith)
+  pub both-other : (k : ℕ) → k < 2 → getD both k 0 ≡ getD sys k 0
+  both-other k h = getD-set-other (set sys 2 a) 3 k b 0 (λ e. omega arith) ∙ getD-set-other sys 2 k a 0 (λ e. omega arith)
 
   module _ (w : length sys ≡ systemWidth) where
-    counted-layers : layersUsed (counted sys n) ≡ layersUsed sys + 1
-    unfolding counted
-    counted-layers = getD-set-other one 3 2 (poolUsed sys + n) 0 (λ e. omega arith) ∙ getD-set-same sys 2 (layersUsed sys + 1) 0 (omega arith)
+    pub both-layers : layersUsed both ≡ a
+    both-layers = getD-set-other (set sys 2 a) 3 2 b 0 (λ e. omega arith) ∙ getD-set-same sys 2 a 0 (omega arith)
 
-    counted-pool : poolUsed (counted sys n) ≡ poolUsed sys + n
-    unfolding counted
-    counted-pool = getD-set-same one 3 (poolUsed sys + n) 0 (rw (length-set) (omega arith))
+    pub both-pool : poolUsed both ≡ b
+    both-pool = getD-set-same (set sys 2 a) 3 b 0 (rw (length-set) (omega arith))
 
 -- ---- the tables after it
 module _ (T : Tables) (t r : ℕ) (S : Sound T) (A : Allowed T t r) where
@@ -206,17 +202,18 @@ module _ (T : Tables) (t r : ℕ) (S : Sound T) (A : Allowed T t r) where
   }
 
   restrict-sound : Sound (restricted T t r)
-  unfolding restricted
+  unfolding restricted counted
   restrict-sound =
-      let n : ℕ = rulesetCount rs r in
-      let lv = counted-other sys n 0 (omega arith) in
-      let ct = counted-other sys n 1 (omega arith) in
-      let lu = counted-layers sys n (S .lengths .system) in
-      let pu = counted-pool sys n (S .lengths .system) in
+      let a = layersUsed sys + 1 in
+      let b = poolUsed sys + rulesetCount rs r in
+      let lv = both-other sys a b 0 (omega arith) in
+      let ct = both-other sys a b 1 (omega arith) in
+      let lu = both-layers sys a b (S .lengths .system) in
+      let pu = both-pool sys a b (S .lengths .system) in
       let low = open-small rs r (S .lengths .rulesets) (A .opens) in
       record {
         lengths = record {
-          system = counted-length sys n ∙ S .lengths .system;
+          system = both-length sys a b ∙ S .lengths .system;
           entries = S .lengths .entries;
           rulesets = S .lengths .rulesets;
           layers = new-length ls rs used (poolUsed sys) r y ∙ S .lengths .layers;

@@ -11,8 +11,9 @@ use Rattle.laws.specs.Sums.{sumBelow, bit, tally}
 use Rattle.laws.proofs.Bools.{split, either, and-l, and-r, both}
 use Rattle.laws.proofs.Sums.{bit-yes, bit-no, bit-few, sum-same, sum-none, tally-find}
 use Rattle.access.specs.Limits.{maxLayers}
-use Rattle.tables.specs.Layers.{layerFirst, layerCount, layerInUse}
+use Rattle.tables.specs.Layers.{layerFirst, layerCount}
 use Rattle.sound_layers.proofs.Facts.{Layers}
+use Rattle.kept_domains.proofs.Layers.{runs-in-pool}
 
 -- ---- double sums
 module _ (g : ℕ → ℕ → ℕ) where
@@ -87,10 +88,6 @@ module _ (es : List ℕ) (next level : ℕ) (ls ps : List ℕ) (used taken : ℕ
   abbrev covers : ℕ → ℕ
   covers p = tally (inRun p) maxLayers
 
-  in-pool : (l : ℕ) → l < maxLayers → layerFirst ls l + layerCount ls l ≤ taken
-  in-pool l h = split (layerInUse ls l) (λ u. Z .each l h u .in-pool)
-      (λ u. let a = Z .free l h u 4 (omega arith) in let b = Z .free l h u 5 (omega arith) in omega arith)
-
   covers-once : (p : ℕ) → covers p ≤ 1
   covers-once p = tally-one (inRun p) maxLayers (λ i j h k q r.
       split (eqb i j) (eqb-true i j)
@@ -108,7 +105,7 @@ module _ (es : List ℕ) (next level : ℕ) (ls ps : List ℕ) (used taken : ℕ
   all-covered : sumBelow covers taken ≡ taken
   all-covered =
       covered taken
-      ∙ sum-same (λ l. min taken (layerFirst ls l + layerCount ls l) - min taken (layerFirst ls l)) (layerCount ls) maxLayers (λ l h. let i = in-pool l h in omega arith)
+      ∙ sum-same (λ l. min taken (layerFirst ls l + layerCount ls l) - min taken (layerFirst ls l)) (layerCount ls) maxLayers (λ l h. let i = runs-in-pool Z l h in omega arith)
       ∙ sym (Z .filled)
 
   covers-one : (p : ℕ) → p < taken → covers p ≡ 1
@@ -126,7 +123,7 @@ module _ (es : List ℕ) (next level : ℕ) (ls ps : List ℕ) (used taken : ℕ
   pub run-begins : (m : ℕ) → m < maxLayers → (layerCount ls m ≡ 0 → ⊥) → layerFirst ls m ≡ runsBefore (layerFirst ls m)
   run-begins m h some =
       let f = layerFirst ls m in
-      let i = in-pool m h in
+      let i = runs-in-pool Z m h in
       let a : sumBelow covers f ≡ f = sum-ones covers f (λ p k. covers-one p (omega arith)) in
       sym a ∙ covered f
       ∙ sum-same (λ l. min f (layerFirst ls l + layerCount ls l) - min f (layerFirst ls l)) (λ l. cond (ltb (layerFirst ls l) f) (layerCount ls l) 0) maxLayers

@@ -125,13 +125,9 @@ module _ (T : Tables) (u : ℕ) (A B : Tables) (a : Ended T u A) (b : Ended T u 
       let p : i / ruleWidth < poolUsed (A .system) = div-lt-iff-lt-mul (omega arith) .1 (omega arith) in
       let r = place-filled (A .entries) (counter (A .system)) (level (A .system)) la (A .pool) (layersUsed (A .system)) (poolUsed (A .system)) (SA .layers) (i / ruleWidth) p in
       let s = inside-at (layerFirst la (r .0)) (layerCount la (r .0)) (i / ruleWidth) (r .2) in
-      let d : i / ruleWidth * ruleWidth + i % ruleWidth ≡ i = div-add-mod' i ruleWidth in
-      let m : i % ruleWidth < ruleWidth = mod-lt i (omega arith) in
       same-rule (r .0) i (r .1) (omega arith) (omega arith))
       (λ q.
       let x = ltb-false i (ruleWidth * poolUsed (A .system)) q in
-      let w = SA .lengths .pool in
-      let t = same-taken in
       SA .layers .pool-rest i x (omega arith) ∙ sym (SB .layers .pool-rest i (omega arith) (omega arith))))
 
   pub ended-only : A ≡ B

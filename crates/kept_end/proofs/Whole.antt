@@ -25,8 +25,9 @@ use Rattle.domain_end.specs.End.{released, unheld, putLayer, ended}
 use Rattle.domain_end.specs.Whole.{reachedBut, rulesBefore, placeOf, Ended}
 use Rattle.kept_domains.proofs.Threads.{live-below}
 use Rattle.kept_domains.proofs.Counts.{layer-recounted}
+use Rattle.kept_domains.proofs.Restrict.{both-other}
 use Rattle.kept_end.proofs.Release.{less-beside, less-in-use, less-free, layer-stands, moved}
-use Rattle.kept_end.proofs.Put.{both-other, in-use, less-same, less-used, released-owing, step-ends}
+use Rattle.kept_end.proofs.Put.{in-use, less-same, less-used, released-owing, step-ends}
 use Rattle.kept_end.proofs.End.{left-owing, thread, live-other, live-same, ended-sound, ended-rows, ended-lives, ended-domain, ended-entries}
 use Rattle.kept_end.proofs.Reached.{in-use-reached, reached-in-use}
 use Rattle.kept_end.proofs.Filled.{run-begins}

@@ -1,5 +1,5 @@
 -- An entry in which none stands becomes a free row: remove keeps sound tables sound. Assumes nothing.
-use mathlib.Core.Path.{_≡_, sym, ap, _∙_}
+use mathlib.Core.Path.{_≡_, refl, sym, ap, _∙_}
 use mathlib.Core.Bool.{true, false}
 use mathlib.Core.List.{List}
 use mathlib.Core.Logic.{inl}
@@ -15,7 +15,7 @@ use Rattle.laws.proofs.Tests.{none-at}
 use Rattle.laws.proofs.Refusals.{passed}
 use Rattle.access.specs.Limits.{maxEntries}
 use Rattle.access.specs.declared.errno.Reply.the-variants.{Done}
-use Rattle.tables.specs.Tables.{Tables, entryWidth, kind, parent, object, live, isDir}
+use Rattle.tables.specs.Tables.{Tables, entryWidth, counter, kind, parent, object, live, isDir}
 use Rattle.tables.specs.Outcome.{outcome}
 use Rattle.sound_tree.proofs.Facts.{Tree}
 use Rattle.sound.specs.Sound.{sound}
@@ -24,11 +24,8 @@ use Rattle.sound.proofs.Calls.{kept-call}
 use Rattle.tree.specs.Entries.{isChild, isFull, putEntry, freeRow, withEntries}
 use Rattle.tree.specs.Create.{removeShape, removeVerdict, removeLater, removeChecks, treeRemove}
 use Rattle.kept_tree.proofs.Written.{put-other, length-put, kind-put, parent-put, object-put, live-same, dead-zero}
-use Rattle.kept_tree.proofs.Stays.{Frame, kept-change}
-
--- no live entry stands in e
-abbrev pub Childless : List ℕ → ℕ → Type 0
-Childless es e = (x : ℕ) → live es x ≡ true → parent es x ≡ e → ⊥
+use Rattle.kept_tree.proofs.Edits.{Childless, clear-frame}
+use Rattle.kept_tree.proofs.Stays.{Change, kept-change}
 
 pub childless : (es : List ℕ) (next : ℕ) → Tree es next → (e : ℕ) → (0 ≡ e → ⊥) → isFull es e ≡ false → Childless es e
 unfolding isFull isChild
@@ -57,12 +54,10 @@ module _ (T : Tables) (S : Sound T) (e : ℕ) (there : live (T .entries) e ≡ t
   new-dead : (x : ℕ) → x ≡ e → live new x ≡ false
   new-dead x q = dead-zero new x (ap (kind new) q ∙ kind-put es e 0 0 0 room)
 
-  frame : Frame es new (λ x. eqb x e)
-  frame = record {
-    keeps-kind = λ x a g. at x 0 (eqb-false x e g) (omega arith);
-    keeps-object = λ x a g. at x 2 (eqb-false x e g) (omega arith);
-    under-dir = λ x a g. rw (at x 1 (eqb-false x e g) (omega arith)) (S .tree .in-dir x a);
-    under-kept = λ x a g. rw (at x 1 (eqb-false x e g) (omega arith)) (ne-eqb (parent es x) e (none x a));
+  change : Change es new (λ x. eqb x e)
+  unfolding freeRow
+  change = record {
+    frame = clear-frame es (counter (T .system)) (S .tree) es e (λ x. eqb x e) (λ x. refl) (λ x. refl) (λ x. refl) (S .tree .in-dir) none;
     settled = λ x a g. inl (at x 1 (eqb-false x e g) (omega arith));
     long = length-put es e 0 0 0 ∙ S .tree .long;
     top = at 0 1 nz (omega arith) ∙ S .tree .root-top;
@@ -77,7 +72,7 @@ module _ (T : Tables) (S : Sound T) (e : ℕ) (there : live (T .entries) e ≡ t
 
   pub kept-clear : sound (withEntries T (freeRow (T .entries) e)) ≡ true
   unfolding freeRow
-  kept-clear = kept-change T S new (λ x. eqb x e) frame
+  kept-clear = kept-change T S new (λ x. eqb x e) change
       (λ x a. split (eqb x e)
       (λ q. clash (live new x) a (new-dead x (eqb-true x e q)))
       (λ q. (sym (live-same es new x (at x 0 (eqb-false x e q) (omega arith))) ∙ a, q)))

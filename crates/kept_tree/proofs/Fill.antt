@@ -27,9 +27,10 @@ use Rattle.tree.specs.Entries.{freeEntry, unknownKind, putEntry, withEntries}
 use Rattle.tree.specs.Create.{createShape, createVerdict, createLater, treeCreateChecks, treeCreated, treeCreate}
 use Rattle.tree.specs.Link.{linkShape, linkVerdict, linkLater, linkChecks, linked, treeLink}
 use Rattle.kept_tree.proofs.Written.{put-other, length-put, kind-put, parent-put, object-put, is-dir, live-same, dir-same}
+use Rattle.kept_tree.proofs.Edits.{fill-frame}
 use Rattle.kept_tree.proofs.Changed.{OldFiles, kept-tables}
 use Rattle.kept_tree.proofs.Climbs.{root-live}
-use Rattle.kept_tree.proofs.Stays.{Frame, tree-stays}
+use Rattle.kept_tree.proofs.Stays.{Change, tree-stays}
 
 module _ (es : List ℕ) (next next′ : ℕ) (Z : Tree es next) (n k d o : ℕ) (small : n < maxEntries) (free : live es n ≡ false) (home : isDir es d ≡ true)
     (some : k ≡ 0 → ⊥) (known : k ≤ lastKind) (grow : next ≤ next′) (numbered : o < next′)
@@ -70,12 +71,9 @@ module _ (es : List ℕ) (next next′ : ℕ) (Z : Tree es next) (n k d o : ℕ)
   unfolding live
   new-live x e = rw (new-kind x e) (not-of-false _ (ne-eqb k 0 some))
 
-  frame : Frame es new (λ x. false)
-  frame = record {
-    keeps-kind = λ x a g. kind-at x (off x a);
-    keeps-object = λ x a g. object-at x (off x a);
-    under-dir = λ x a g. rw (parent-at x (off x a)) (Z .in-dir x a);
-    under-kept = λ x a g. refl;
+  change : Change es new (λ x. false)
+  change = record {
+    frame = fill-frame es next Z n k d o free (λ x. false) (λ x. refl);
     settled = λ x a g. inl (parent-at x (off x a));
     long = length-put es n k d o ∙ Z .long;
     top = parent-at 0 (off 0 (root-live es next Z)) ∙ Z .root-top;
@@ -109,7 +107,7 @@ module _ (es : List ℕ) (next next′ : ℕ) (Z : Tree es next) (n k d o : ℕ)
       )))
 
   pub fill-tree : Tree (putEntry es n k d o) next′
-  fill-tree = tree-stays es new next next′ Z (λ x. false) frame grow
+  fill-tree = tree-stays es new next next′ Z (λ x. false) change grow
       (record { kinds-agree = λ e f a b q. agreed e f a b q .0; one-dir = λ e f a b q. agreed e f a b q .1 })
       (λ x a. split (eqb x n)
       (λ q.

@@ -1,5 +1,6 @@
 -- The calls that change the tree keep sound tables sound.
 pub mod Written
+pub mod Edits
 pub mod Changed
 pub mod Climbs
 pub mod Stays

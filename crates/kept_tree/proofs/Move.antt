@@ -26,8 +26,9 @@ use Rattle.tree.specs.Rename.{renameNames, renameShape, renameVerdict, renameLa
 use Rattle.tree.specs.Exchange.{exchangeNames, exchangeShape, exchangeVerdict, exchangeChecks, swapped, treeExchange}
 use Rattle.kept_tree.proofs.Written.{kind-move, object-move, parent-stay, parent-move, length-move, live-dir, live-same, dir-same}
 use Rattle.kept_tree.proofs.Climbs.{Avoids, above-avoids, own-parent, same-climb, same-reach}
-use Rattle.kept_tree.proofs.Stays.{Frame, kept-change}
-use Rattle.kept_tree.proofs.Clear.{Childless, childless, kept-clear}
+use Rattle.kept_tree.proofs.Edits.{Childless, move-frame}
+use Rattle.kept_tree.proofs.Stays.{Change, kept-change}
+use Rattle.kept_tree.proofs.Clear.{childless, kept-clear}
 
 module _ (T : Tables) (S : Sound T) (s d : ℕ) (source : live (T .entries) s ≡ true) (nz : 0 ≡ s → ⊥) (home : isDir (T .entries) d ≡ true)
     (outside : Avoids (T .entries) s d) where
@@ -40,21 +41,16 @@ module _ (T : Tables) (S : Sound T) (s d : ℕ) (source : live (T .entries) s �
   room : entryWidth * s + 1 < length es
   room = let w = S .tree .long in let l = S .tree .small s source in omega arith
 
-  there : (x : ℕ) → x ≡ s → parent new x ≡ d
-  there x e = ap (parent new) e ∙ parent-move es s d room
+  moved-to : (x : ℕ) → x ≡ s → parent new x ≡ d
+  moved-to x e = ap (parent new) e ∙ parent-move es s d room
 
-  frame : Frame es new (λ x. false)
-  frame =
+  change : Change es new (λ x. false)
+  change =
       let next = counter (T .system) in
       record {
-        keeps-kind = λ x a g. kind-move es s d x;
-        keeps-object = λ x a g. object-move es s d x;
-        under-dir = λ x a g. split (eqb x s)
-            (λ q. rw (there x (eqb-true x s q)) home)
-            (λ q. rw (parent-stay es s d x (eqb-false x s q)) (S .tree .in-dir x a));
-        under-kept = λ x a g. refl;
+        frame = move-frame es next (S .tree) s d source home (λ x. false) (λ x. refl);
         settled = λ x a g. split (eqb x s)
-            (λ q. inr (rw (there x (eqb-true x s q)) (same-reach es new next (S .tree) d (live-dir es d home) (λ j. parent-stay es s d (up es j d) (outside j)))))
+            (λ q. inr (rw (moved-to x (eqb-true x s q)) (same-reach es new next (S .tree) d (live-dir es d home) (λ j. parent-stay es s d (up es j d) (outside j)))))
             (λ q. inl (parent-stay es s d x (eqb-false x s q)));
         long = length-move es s d ∙ S .tree .long;
         top = parent-stay es s d 0 nz ∙ S .tree .root-top;
@@ -66,7 +62,7 @@ module _ (T : Tables) (S : Sound T) (s d : ℕ) (source : live (T .entries) s �
       }
 
   pub kept-move : sound (withEntries T (putParent (T .entries) s d)) ≡ true
-  kept-move = kept-change T S new (λ x. false) frame (λ x a. (sym (live-same es new x (kind-move es s d x)) ∙ a, refl))
+  kept-move = kept-change T S new (λ x. false) change (λ x a. (sym (live-same es new x (kind-move es s d x)) ∙ a, refl))
 
 -- ---- rename
 module _ (T : Tables) (S : Sound T) (s d : ℕ) (source : live (T .entries) s ≡ true) (nz : 0 ≡ s → ⊥) (home : isDir (T .entries) d ≡ true)
@@ -77,12 +73,8 @@ module _ (T : Tables) (S : Sound T) (s d : ℕ) (source : live (T .entries) s �
   still x l p =
       let es = T .entries in
       split (eqb x s)
-      (λ q. none y there (child ∙ sym (moved-to x (eqb-true x s q)) ∙ p))
+      (λ q. none y there (child ∙ sym (moved-to T S s d source nz home outside x (eqb-true x s q)) ∙ p))
       (λ q. none x (sym (live-same es (putParent es s d) x (kind-move es s d x)) ∙ l) (sym (parent-stay es s d x (eqb-false x s q)) ∙ p))
-    where
-      moved-to : (x : ℕ) → x ≡ s → parent (putParent (T .entries) s d) x ≡ d
-      moved-to x e = ap (parent (putParent (T .entries) s d)) e
-          ∙ parent-move (T .entries) s d (let w = S .tree .long in let l = S .tree .small s source in omega arith)
 
   kept-replace : sound (withEntries T (freeRow (putParent (T .entries) s d) y)) ≡ true
   kept-replace =

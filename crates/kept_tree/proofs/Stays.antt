@@ -20,15 +20,12 @@ use Rattle.sound.specs.Sound.{sound}
 use Rattle.sound.proofs.Facts.{Sound}
 use Rattle.tree.specs.Entries.{withEntries}
 use Rattle.kept_tree.proofs.Written.{live-dir, dir-same, in-table}
+use Rattle.kept_tree.proofs.Edits.{Frame}
 use Rattle.kept_tree.proofs.Changed.{kept-tables}
 use Rattle.kept_tree.proofs.Climbs.{Reach, root-live, up-live, step-reach, root-reach}
 
--- what is not gone keeps its kind and object, and stands in a directory that was there before and is not gone
-pub record Frame (es es′ : List ℕ) (gone : ℕ → Bool) : Type 0 where
-  pub keeps-kind : (x : ℕ) → live es x ≡ true → gone x ≡ false → kind es′ x ≡ kind es x
-  pub keeps-object : (x : ℕ) → live es x ≡ true → gone x ≡ false → object es′ x ≡ object es x
-  pub under-dir : (x : ℕ) → live es x ≡ true → gone x ≡ false → isDir es (parent es′ x) ≡ true
-  pub under-kept : (x : ℕ) → live es x ≡ true → gone x ≡ false → gone (parent es′ x) ≡ false
+pub record Change (es es′ : List ℕ) (gone : ℕ → Bool) : Type 0 where
+  pub frame : Frame es es′ gone
   -- the parent is as before, or its climb ends
   pub settled : (x : ℕ) → live es x ≡ true → gone x ≡ false → (parent es′ x ≡ parent es x) ⊎ Reach es′ (parent es′ x)
   pub long : length es′ ≡ entryWidth * maxEntries
@@ -44,7 +41,7 @@ pub record Born (es es′ : List ℕ) (gone : ℕ → Bool) (next x : ℕ) : Typ
   pub known : kind es′ x ≤ lastKind
   pub numbered : object es′ x < next
 
-module _ (es es′ : List ℕ) (next next′ : ℕ) (Z : Tree es next) (gone : ℕ → Bool) (F : Frame es es′ gone) (grow : next ≤ next′) (A : Agreed es′)
+module _ (es es′ : List ℕ) (next next′ : ℕ) (Z : Tree es next) (gone : ℕ → Bool) (F : Change es es′ gone) (grow : next ≤ next′) (A : Agreed es′)
     (born : (x : ℕ) → live es′ x ≡ true → ((live es x ≡ true) × (gone x ≡ false)) ⊎ Born es es′ gone next′ x) where
   -- what is kept still comes to the root
   settle : (n z : ℕ) → reaches es n z ≡ true → live es z ≡ true → gone z ≡ false → Reach es′ z
@@ -53,16 +50,16 @@ module _ (es es′ : List ℕ) (next next′ : ℕ) (Z : Tree es next) (gone : �
   settle (suc n) z r a g = split (eqb z 0)
       (λ o. root-reach es′ z (eqb-true z 0 o))
       (λ o. step-reach es′ z (either (F .settled z a g)
-      (λ e. rw e (settle n (parent es z) (rw o at r) (live-dir es (parent es z) (Z .in-dir z a)) (rw e at (F .under-kept z a g))))
+      (λ e. rw e (settle n (parent es z) (rw o at r) (live-dir es (parent es z) (Z .in-dir z a)) (rw e at (F .frame .under-kept z a g))))
       (λ x. x)))
 
   -- a directory that is kept is one still
   dir-kept : (x : ℕ) → isDir es x ≡ true → gone x ≡ false → isDir es′ x ≡ true
-  dir-kept x d g = dir-same es es′ x x (F .keeps-kind x (live-dir es x d) g) ∙ d
+  dir-kept x d g = dir-same es es′ x x (F .frame .keeps-kind x (live-dir es x d) g) ∙ d
 
   dirs : (z : ℕ) → live es′ z ≡ true → isDir es′ (parent es′ z) ≡ true
   dirs z a = either (born z a)
-      (λ k. dir-kept (parent es′ z) (F .under-dir z (k .0) (k .1)) (F .under-kept z (k .0) (k .1)))
+      (λ k. dir-kept (parent es′ z) (F .frame .under-dir z (k .0) (k .1)) (F .frame .under-kept z (k .0) (k .1)))
       (λ k. dir-kept (parent es′ z) (k .home) (k .home-kept))
 
   kept-reach : (z : ℕ) → live es z ≡ true → gone z ≡ false → Reach es′ z
@@ -76,14 +73,14 @@ module _ (es es′ : List ℕ) (next next′ : ℕ) (Z : Tree es next) (gone : �
       let rd = root-live es next Z in
       record {
         long = F .long;
-        root-dir = F .keeps-kind 0 rd (F .root) ∙ Z .root-dir;
+        root-dir = F .frame .keeps-kind 0 rd (F .root) ∙ Z .root-dir;
         root-top = F .top;
-        root-object = F .keeps-object 0 rd (F .root) ∙ Z .root-object;
+        root-object = F .frame .keeps-object 0 rd (F .root) ∙ Z .root-object;
         small = in-table es′ (F .long);
-        kinds = λ e l. either (born e l) (λ k. rw (F .keeps-kind e (k .0) (k .1)) (Z .kinds e (k .0))) (λ k. k .known);
+        kinds = λ e l. either (born e l) (λ k. rw (F .frame .keeps-kind e (k .0) (k .1)) (Z .kinds e (k .0))) (λ k. k .known);
         in-dir = dirs;
         objects = λ e l. either (born e l)
-            (λ k. let o = F .keeps-object e (k .0) (k .1) in let b = Z .objects e (k .0) in omega arith)
+            (λ k. let o = F .frame .keeps-object e (k .0) (k .1) in let b = Z .objects e (k .0) in omega arith)
             (λ k. k .numbered);
         tops = λ e l. let r = reach e l in climb-bound es′ e (r .0) (λ i. in-table es′ (F .long) (up es′ i e) (up-live es′ dirs i e l)) (r .1);
         free = F .vacant;
@@ -91,13 +88,13 @@ module _ (es es′ : List ℕ) (next next′ : ℕ) (Z : Tree es next) (gone : �
       }
 
 -- ---- a change that brings no entry
-module _ (T : Tables) (S : Sound T) (es : List ℕ) (gone : ℕ → Bool) (F : Frame (T .entries) es gone)
+module _ (T : Tables) (S : Sound T) (es : List ℕ) (gone : ℕ → Bool) (F : Change (T .entries) es gone)
     (kept : (x : ℕ) → live es x ≡ true → (live (T .entries) x ≡ true) × (gone x ≡ false)) where
   same-kind : (x : ℕ) → live es x ≡ true → kind es x ≡ kind (T .entries) x
-  same-kind x a = let k = kept x a in F .keeps-kind x (k .0) (k .1)
+  same-kind x a = let k = kept x a in F .frame .keeps-kind x (k .0) (k .1)
 
   same-object : (x : ℕ) → live es x ≡ true → object es x ≡ object (T .entries) x
-  same-object x a = let k = kept x a in F .keeps-object x (k .0) (k .1)
+  same-object x a = let k = kept x a in F .frame .keeps-object x (k .0) (k .1)
 
   agreed : Agreed es
   agreed =

@@ -36,21 +36,15 @@ module _ (es ls ps D : List ℕ) (m : Move) (v : any (layerCrosses es ls ps m) D
       let z : join (deniedRefer es L m) (escaping es L m) ≡ 0 = rw (ne-eqb (m .source) (m .target) n) at crossing-none in
       or-r (has (deniedRefer es L m) i) (has (escaping es L m) i) (sym (has-join (deniedRefer es L m) (escaping es L m) i) ∙ ap (λ (k : ℕ). has k i) z ∙ has-none i)
 
-  there-none : (m .source ≡ m .target → ⊥) → (i : ℕ) → has (uncontained es (layerAt ls ps l) (m .source) (m .target) (m .object) (m .rights .0)) i ≡ false
+  -- neither there nor back
+  neither : (m .source ≡ m .target → ⊥) → (i : ℕ)
+      → (has (uncontained es (layerAt ls ps l) (m .source) (m .target) (m .object) (m .rights .0)) i ≡ false) × (has (uncontained es (layerAt ls ps l) (m .target) (m .source) (m .other) (m .back .0)) i ≡ false)
   unfolding escaping
-  there-none n i =
-      let L = layerAt ls ps l in
-      let a = uncontained es L (m .source) (m .target) (m .object) (m .rights .0) in
-      let b = uncontained es L (m .target) (m .source) (m .other) (m .back .0) in
-      or-l (has a i) (has b i) (sym (has-join a b i) ∙ escaping-none n i)
-
-  back-none : (m .source ≡ m .target → ⊥) → (i : ℕ) → has (uncontained es (layerAt ls ps l) (m .target) (m .source) (m .other) (m .back .0)) i ≡ false
-  unfolding escaping
-  back-none n i =
-      let L = layerAt ls ps l in
-      let a = uncontained es L (m .source) (m .target) (m .object) (m .rights .0) in
-      let b = uncontained es L (m .target) (m .source) (m .other) (m .back .0) in
-      or-r (has a i) (has b i) (sym (has-join a b i) ∙ escaping-none n i)
+  neither n i =
+      let a = uncontained es (layerAt ls ps l) (m .source) (m .target) (m .object) (m .rights .0) in
+      let b = uncontained es (layerAt ls ps l) (m .target) (m .source) (m .other) (m .back .0) in
+      let z = sym (has-join a b i) ∙ escaping-none n i in
+      (or-l (has a i) (has b i) z, or-r (has a i) (has b i) z)
 
 module _ (es : List ℕ) (next : ℕ) (Z : Tree es next) (i : ℕ) where
   -- containment, for one right
@@ -76,7 +70,7 @@ module _ (es : List ℕ) (next : ℕ) (Z : Tree es next) (i : ℕ) where
         let p = shut-up es (gives L i) s h in
         split (eqb (parent es s) d)
         (λ q. rw (← (eqb-true (parent es s) d q)) p)
-        (λ q. contained L hd (parent es s) d (object es s) (entryRights es s) (there-none es ls ps D (moveOf step es s d k2 other back) v l c (eqb-false (parent es s) d q) i) r
+        (λ q. contained L hd (parent es s) d (object es s) (entryRights es s) (neither es ls ps D (moveOf step es s d k2 other back) v l c (eqb-false (parent es s) d q) i .0) r
         (shut-here es (gives L i) s h) ld p)
 
     -- and what is shut at the exchanged entry, where s stood
@@ -88,5 +82,5 @@ module _ (es : List ℕ) (next : ℕ) (Z : Tree es next) (i : ℕ) where
         let p : Shut es (gives L i) d = rw px at (shut-up es (gives L i) x h) in
         split (eqb (parent es s) d)
         (λ q. rw (eqb-true (parent es s) d q) p)
-        (λ q. contained L hd d (parent es s) other back (back-none es ls ps D (moveOf step es s d k2 other back) v l c (eqb-false (parent es s) d q) i) (rw eb r)
+        (λ q. contained L hd d (parent es s) other back (neither es ls ps D (moveOf step es s d k2 other back) v l c (eqb-false (parent es s) d q) i .1) (rw eb r)
         (rw eo (shut-here es (gives L i) x h)) lp p)

@@ -1,34 +1,29 @@
 -- A right that a layer denies an entry stays denied through a call from a thread that the layer binds; and what it denies an entry, it denies a new link of it. Assumes nothing.
-use mathlib.Core.Path.{_≡_, refl, sym, ap, _∙_}
-use mathlib.Core.Bool.{Bool, true, false, _&&_}
+use mathlib.Core.Path.{_≡_, refl}
+use mathlib.Core.Bool.{true, false, and-false}
 use mathlib.Core.List.{List, [], _∷_}
 use mathlib.Core.Logic.{_⊎_, inl, inr}
-use Prim.Native.Nat.{ℕ, _+_, _*_, _<_}
+use Prim.Native.Nat.{ℕ}
 use native.Mathlib.Omega.{arith}
 use lib.Dec.{eqb}
-use lib.ListN.{length}
-use borrow.Author.Tests.{eqb-true, eqb-false, ltb-true, not-false}
-use Rattle.laws.specs.Refusals.{first}
-use Rattle.laws.specs.Tests.{any, elem}
+use borrow.Author.Tests.{eqb-true, eqb-false}
+use Rattle.laws.specs.Tests.{elem}
 use Rattle.laws.proofs.Bools.{split, either}
-use Rattle.laws.proofs.Refusals.{passed}
-use Rattle.access.specs.Limits.{maxEntries}
 use Rattle.access.specs.Rights.{has}
 use Rattle.access.specs.declared.errno.Reply.the-variants.{Done}
 use Rattle.access.specs.declared.kinds.MaybeKind.the-variants.{None}
-use Rattle.tables.specs.Tables.{Tables, counter, kind, parent, object, live, isDir}
+use Rattle.tables.specs.Tables.{Tables, counter, kind, parent, object, live}
 use Rattle.tables.specs.Layers.{layerAt}
 use Rattle.sound.specs.Sound.{sound}
 use Rattle.sound.proofs.Facts.{facts}
 use Rattle.judge.specs.Judge.{denied, handled}
-use Rattle.fs.specs.Move.{entryRights, layerCrosses, verdict}
+use Rattle.fs.specs.Move.{entryRights}
 use Rattle.fs.specs.declared.needs.Step.the-variants.{Link}
 use Rattle.tree.specs.Entries.{freeEntry}
-use Rattle.tree.specs.Moves.{linkMove}
-use Rattle.tree.specs.Link.{linkShape, linkVerdict, linkLater, linkChecks, linked, treeLink}
-use Rattle.theorems.specs.Calls.{Call, link, outcomeOf, after, reply, caller, frees, wouldFree, isDone}
+use Rattle.tree.specs.Link.{linked}
+use Rattle.theorems.specs.Calls.{Call, link, after, reply, caller, frees, wouldFree, isDone}
 use Rattle.theorems.specs.Claim.{domainOf, ChangesTree}
-use Rattle.theorems.proofs.Links.{link-passes, number, after-link}
+use Rattle.theorems.proofs.Links.{number, after-link, Checked, checked}
 use Rattle.theorems.proofs.Shut.{gives, Shut, shut-here, shut-cons, denied-handled, denied-shut, shut-denied, dir-holds, live-same, still-shut}
 use Rattle.kept_tree.proofs.Written.{parent-put, object-put, live-dir}
 use Rattle.theorems.proofs.Contained.{shut-there}
@@ -76,41 +71,20 @@ denied-kept T c l e i s w a g r h =
 
 -- ---- a new link
 module _ (T : Tables) (u s d n : ℕ) (h : sound T ≡ true) (y : reply T (link u s d) ≡ Done n) where
-  record Checked : Type 0 where
-    source : live (T .entries) s ≡ true
-    target : isDir (T .entries) d ≡ true
-    within : any (layerCrosses (T .entries) (T .layers) (T .pool) (linkMove (T .entries) s d)) (domainOf T u) ≡ false
-    free : freeEntry (T .entries) < maxEntries
-    room : 3 * freeEntry (T .entries) + 2 < length (T .entries)
-
-  checked : Checked
-  unfolding linkChecks linkShape linkVerdict linkLater verdict
-  checked =
-      let p = passed (linkChecks T u s d) (link-passes T u s d n y) in
-      let k : freeEntry (T .entries) < maxEntries = ltb-true (freeEntry (T .entries)) maxEntries (not-false _ (p .1 .1 .1 .1 .1 .1 .1 .1 .0)) in
-      record {
-        source = not-false _ (p .1 .0);
-        target = not-false _ (p .1 .1 .1 .1 .0);
-        within = p .1 .1 .1 .1 .1 .1 .1 .0;
-        free = k;
-        room = (let w = facts T h .tree .long in omega arith);
-      }
+  abbrev C : Checked T u s d n y
+  C = checked T u s d n y
 
   link-object : object ((after T (link u s d)) .entries) n ≡ object (T .entries) s
   unfolding linked
-  link-object = rw (after-link T u s d n y, number T u s d n y) (object-put (T .entries) (freeEntry (T .entries)) (kind (T .entries) s) d (object (T .entries) s) (checked .room))
+  link-object = rw (after-link T u s d n y, number T u s d n y) (object-put (T .entries) (freeEntry (T .entries)) (kind (T .entries) s) d (object (T .entries) s) (C .room))
 
   link-parent : parent ((after T (link u s d)) .entries) n ≡ d
   unfolding linked
-  link-parent = rw (after-link T u s d n y, number T u s d n y) (parent-put (T .entries) (freeEntry (T .entries)) (kind (T .entries) s) d (object (T .entries) s) (checked .room))
+  link-parent = rw (after-link T u s d n y, number T u s d n y) (parent-put (T .entries) (freeEntry (T .entries)) (kind (T .entries) s) d (object (T .entries) s) (C .room))
 
   link-frees : (e : ℕ) → frees T (link u s d) e ≡ false
   unfolding frees wouldFree
-  link-frees e = none (isDone (reply T (link u s d)))
-    where
-      none : (b : Bool) → (b && false) ≡ false
-      none true = refl
-      none false = refl
+  link-frees e = and-false (isDone (reply T (link u s d)))
 
   link-shut : (l i : ℕ) → elem l (domainOf T u) ≡ true → has (entryRights (T .entries) s) i ≡ true → has (handled (layerAt (T .layers) (T .pool) l)) i ≡ true
       → Shut (T .entries) (gives (layerAt (T .layers) (T .pool) l) i) s → Shut ((after T (link u s d)) .entries) (gives (layerAt (T .layers) (T .pool) l) i) n
@@ -119,9 +93,9 @@ module _ (T : Tables) (u s d n : ℕ) (h : sound T ≡ true) (y : reply T (link 
       let es = T .entries in
       let es′ = (after T (link u s d)) .entries in
       let f = gives (layerAt (T .layers) (T .pool) l) i in
-      let ld = live-dir es d (checked .target) in
-      let sd : Shut es f d = shut-there es (counter (T .system)) (facts T h .tree) i (T .layers) (T .pool) (domainOf T u) l m hd Link s d None 0 0 (checked .within) ld r x in
-      let sd′ : Shut es′ f d = still T (link u s d) l d i h m ld (link-frees d) (dir-holds es s d i (checked .target) r) hd sd in
+      let ld = live-dir es d (C .target) in
+      let sd : Shut es f d = shut-there es (counter (T .system)) (facts T h .tree) i (T .layers) (T .pool) (domainOf T u) l m hd Link s d None 0 0 (C .within) ld r x in
+      let sd′ : Shut es′ f d = still T (link u s d) l d i h m ld (link-frees d) (dir-holds es s d i (C .target) r) hd sd in
       shut-cons es′ f n (rw link-object (shut-here es f s x)) (rw link-parent sd′)
 
 pub link-denied : (T : Tables) (u s d n l i : ℕ) → sound T ≡ true → reply T (link u s d) ≡ Done n → elem l (domainOf T u) ≡ true
@@ -132,4 +106,4 @@ link-denied T u s d n l i h y m r x =
     let L = layerAt (T .layers) (T .pool) l in
     let hd = denied-handled es L s i x in
     shut-denied ((after T (link u s d)) .entries) L n i hd
-    (link-shut T u s d n h y l i m r hd (denied-shut es L s i (counter (T .system)) (facts T h .tree) (checked T u s d n h y .source) x))
+    (link-shut T u s d n h y l i m r hd (denied-shut es L s i (counter (T .system)) (facts T h .tree) (checked T u s d n y .source) x))

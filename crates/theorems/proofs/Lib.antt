@@ -7,7 +7,6 @@ pub mod Ports
 pub mod Reach
 pub mod Links
 pub mod Shut
-pub mod Edits
 pub mod Contained
 pub mod Steps
 pub mod Denied

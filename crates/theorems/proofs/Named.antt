@@ -1,6 +1,6 @@
--- Which layer a refusal names. Assumes nothing.
+-- Which layer a refusal names, and that it changes nothing. Assumes nothing.
 use mathlib.Core.Path.{_≡_, refl, sym, ap, ap₂, subst, _∙_}
-use mathlib.Core.Bool.{Bool, true, false, not, cond, _&&_, _||_}
+use mathlib.Core.Bool.{Bool, true, false, not, cond, _&&_, _||_, and-or-distrib-right}
 use mathlib.Core.List.{List, [], _∷_}
 use mathlib.Core.Logic.{_⊎_, inl, inr}
 use Prim.Native.Nat.{ℕ, _<_}
@@ -21,11 +21,10 @@ use Rattle.access.specs.declared.errno.Reply.the-variants.{Done, Refused, Denie
 use Rattle.access.specs.declared.rights.Rights.{Rights}
 use Rattle.tables.specs.Tables.{Tables, kind, parent, pathRule, threadLive}
 use Rattle.tables.specs.Layers.{Layer, layerAt}
-use Rattle.tables.specs.Outcome.{Outcome, errorOf, answer, blame, named}
+use Rattle.tables.specs.Outcome.{Outcome, errorOf, blame, named, naming}
 use Rattle.sound.specs.Sound.{sound}
 use Rattle.sound.specs.Call.{call}
 use Rattle.sound.proofs.Facts.{facts}
-use Rattle.sound.proofs.Calls.{call-unsound, call-refused, call-done}
 use Rattle.judge.specs.Domain.{lacks, layerLacks, portLacks, layerPortLacks}
 use Rattle.judge.specs.Blame.{none}
 use Rattle.judge.specs.Rules.{rightsOn}
@@ -46,19 +45,18 @@ use Rattle.fs.specs.declared.verdict.Move.{Move}
 use Rattle.fs_access.specs.Access.{accessNames, accessMask, accessChecks, accessCall}
 use Rattle.net.specs.Port.{portForm, portChecks, portCall}
 use Rattle.task.specs.Task.{taskChecks, taskCall}
-use Rattle.tree.specs.declared.Replaced.{Replaced}
 use Rattle.tree.specs.Moves.{linkMove, renameMove, exchangeMove}
 use Rattle.tree.specs.Create.{createShape, createVerdict, createLater, treeCreateChecks, treeCreate, removeShape, removeVerdict, removeLater, removeChecks, treeRemove}
 use Rattle.tree.specs.Link.{linkShape, linkVerdict, linkLater, linkChecks, treeLink}
 use Rattle.tree.specs.Rename.{renameNames, renameShape, renameVerdict, renameLater, renameChecks, treeRename}
 use Rattle.tree.specs.Exchange.{exchangeNames, exchangeShape, exchangeVerdict, exchangeChecks, treeExchange}
-use Rattle.theorems.specs.Calls.{Call, create-ruleset, close-ruleset, add-path-rule, add-port-rule, restrict, layer-rules, clone, end-thread, set-no-new-privs, set-admin, access, port, task, create, remove, link, rename, exchange, outcomeOf, caller, reply}
+use Rattle.theorems.specs.Calls.{Call, create-ruleset, close-ruleset, add-path-rule, add-port-rule, restrict, layer-rules, clone, end-thread, set-no-new-privs, set-admin, access, port, task, create, remove, link, rename, exchange, outcomeOf, after, caller, isDone, reply}
 use Rattle.theorems.specs.Claim.{domainOf}
 use Rattle.theorems.specs.Named.{refusalsOf, verdictOn, ByVerdict, Lies, Youngest, here, older, LayerNamed}
-use Rattle.theorems.proofs.Naming.{blame-error, error-named}
+use Rattle.theorems.proofs.Naming.{call-cases, blame-error, done-named, error-named}
 
 -- a set is not empty
-abbrev some : (ℕ → ℕ) → ℕ → Bool
+abbrev pub some : (ℕ → ℕ) → ℕ → Bool
 some f l = not (eqb (f l) 0)
 
 abbrev no : ℕ → Reply
@@ -90,7 +88,7 @@ youngest-in (here {l} {D} n) = or-left (eqb l l) (elem l D) (eq-eqb l l refl)
 youngest-in (older {k} {l} {s} {D} z y) = or-right (eqb l k) (elem l D) (youngest-in y)
 
 -- ---- the tests of a list that answer e all fail
-abbrev Lacks : ℕ → List Check → Type 0
+abbrev pub Lacks : ℕ → List Check → Type 0
 Lacks e [] = Unit {0}
 Lacks e ((b ⇒ n) ∷ cs) = cond (eqb n e) ((b ≡ false) × Lacks e cs) (Lacks e cs)
 
@@ -110,15 +108,14 @@ module _ (T : Tables) (cs : List Check) (done : Outcome) (n : ℕ) (dn : done .r
   r = call T cs done .reply
 
   cases : (P : Reply → Type 0) → (sound T ≡ false → P (no EIO)) → (sound T ≡ true → (first cs ≡ 0 → ⊥) → P (no (first cs))) → (sound T ≡ true → first cs ≡ 0 → P (Done n)) → P r
-  cases P u f d = split (sound T)
-      (λ h. split (eqb (first cs) 0)
-      (λ q. let z = eqb-true (first cs) 0 q in subst P (sym dn ∙ ap (λ (o : Outcome). o .reply) (call-done T cs done (sym h) refl refl z)) (d h z))
-      (λ q. let z = eqb-false (first cs) 0 q in subst P (ap (λ (o : Outcome). o .reply) (call-refused T cs done (sym h) refl refl z)) (f h z)))
-      (λ h. subst P (ap (λ (o : Outcome). o .reply) (call-unsound T cs done (sym h) refl)) (u h))
+  cases P u f d = call-cases T cs done (λ o. P (o .reply)) u f (λ h z. rw dn (d h z))
 
   call-number : errorOf r ≡ first (not (sound T) ⇒ EIO ∷ cs)
   unfolding first
   call-number = cases (λ x. errorOf x ≡ first (not (sound T) ⇒ EIO ∷ cs)) (λ h. rw h refl) (λ h z. rw h refl) (λ h z. rw h (sym z))
+
+  call-same : isDone r ≡ false → call T cs done .left ≡ T
+  call-same = call-cases T cs done (λ o. isDone (o .reply) ≡ false → o .left ≡ T) (λ h k. refl) (λ h z k. refl) (λ h z k. clash (isDone (done .reply)) (ap isDone dn) k)
 
   -- without a verdict
   plain-denied : {A : Type 0} {e : Errno} {l : ℕ} {s : Rights} → r ≡ Denied e l s → A
@@ -195,73 +192,64 @@ module _ (T : Tables) (cs : List Check) (done : Outcome) (n : ℕ) (dn : done .r
           reached-in-use T (facts T (p .0)) l (t, verdict-live (p .1), told-in (p .2)) .0
 
 -- ---- every call
-number : (T : Tables) (c : Call) → errorOf (reply T c) ≡ first (not (sound T) ⇒ EIO ∷ refusalsOf T c)
-unfolding outcomeOf created createDone closed closeDone pathAdded portAdded addDone restrictCall restrictDone cloned cloneDone endCall endDone privsSet adminSet markDone layerRead accessCall portCall taskCall treeCreate treeRemove treeLink treeRename treeExchange refusalsOf
-number T (create-ruleset bs flags) = call-number T (createChecks T bs flags) _ _ refl
-number T (close-ruleset r) = call-number T (closeChecks T r) _ _ refl
-number T (add-path-rule r e rights flags) = call-number T (addPathChecks T r e rights flags) _ _ refl
-number T (add-port-rule r p rights flags) = call-number T (addPortChecks T r p rights flags) _ _ refl
-number T (restrict t r flags) = call-number T (restrictChecks T t r flags) _ _ refl
-number T (layer-rules k) = call-number T (layerChecks T k) _ _ refl
-number T (clone t) = call-number T (cloneChecks T t) _ _ refl
-number T (end-thread t) = call-number T (endChecks T t) _ _ refl
-number T (set-no-new-privs t) = call-number T (markChecks T t) _ _ refl
-number T (set-admin t on) = call-number T (markChecks T t) _ _ refl
-number T (access t e m) = named-number T (accessChecks T t e m) _ _ refl t _ _
-number T (port t p m) = named-number T (portChecks T t p m) _ _ refl t _ _
-number T (task t u i) = call-number T (taskChecks (T .layers) (T .threads) t u i) _ _ refl
-number T (create t d k) = named-number T (treeCreateChecks T t d k) _ _ refl t _ _
-number T (remove t e) = named-number T (removeChecks T t e) _ _ refl t _ _
-number T (link t a d) = named-number T (linkChecks T t a d) _ _ refl t _ _
-number T (rename t a d x) = named-number T (renameChecks T t a d x) _ _ refl t _ _
-number T (exchange t a d x) = named-number T (exchangeChecks T t a d x) _ _ refl t _ _
+pub data Shape (T : Tables) (c : Call) : Type 0 where
+  -- without a verdict, and so without its numbers
+  plain : (done : Outcome) (n : ℕ) → done .reply ≡ Done n → outcomeOf T c ≡ call T (refusalsOf T c) done → Lacks EACCES (refusalsOf T c) → Lacks EXDEV (refusalsOf T c) → Shape T c
+  -- with a verdict on a thread that is live, whose numbers come from layers with a set
+  judged : (done : Outcome) (n : ℕ) → done .reply ≡ Done n → outcomeOf T c ≡ naming (verdictOn T c .denied) (verdictOn T c .crossed) (domainOf T (caller c)) (call T (refusalsOf T c) done)
+      → (threadLive (T .threads) (caller c) ≡ false → first (refusalsOf T c) ≡ ESRCH) → (any (some (verdictOn T c .denied)) (domainOf T (caller c)) ≡ false → Lacks EACCES (refusalsOf T c))
+      → (any (some (verdictOn T c .crossed)) (domainOf T (caller c)) ≡ false → Lacks EXDEV (refusalsOf T c)) → Shape T c
 
-told : (T : Tables) (c : Call) (e : Errno) (l : ℕ) (s : Rights) → reply T c ≡ Denied e l s → ByVerdict T c e l s
-unfolding outcomeOf created createDone closed closeDone pathAdded portAdded addDone restrictCall restrictDone cloned cloneDone endCall endDone privsSet adminSet markDone layerRead accessCall portCall taskCall treeCreate treeRemove treeLink treeRename treeExchange verdictOn caller first accessChecks accessNames portChecks portForm
-    treeCreateChecks createShape removeChecks removeShape linkChecks linkShape renameChecks renameNames exchangeChecks exchangeNames
-told T (create-ruleset bs flags) e l s h = plain-denied T (createChecks T bs flags) _ _ refl h
-told T (close-ruleset r) e l s h = plain-denied T (closeChecks T r) _ _ refl h
-told T (add-path-rule r x rights flags) e l s h = plain-denied T (addPathChecks T r x rights flags) _ _ refl h
-told T (add-port-rule r p rights flags) e l s h = plain-denied T (addPortChecks T r p rights flags) _ _ refl h
-told T (restrict t r flags) e l s h = plain-denied T (restrictChecks T t r flags) _ _ refl h
-told T (layer-rules k) e l s h = plain-denied T (layerChecks T k) _ _ refl h
-told T (clone t) e l s h = plain-denied T (cloneChecks T t) _ _ refl h
-told T (end-thread t) e l s h = plain-denied T (endChecks T t) _ _ refl h
-told T (set-no-new-privs t) e l s h = plain-denied T (markChecks T t) _ _ refl h
-told T (set-admin t on) e l s h = plain-denied T (markChecks T t) _ _ refl h
-told T (access t x m) e l s h = record { named = named-denied T (accessChecks T t x m) _ _ refl t _ _ h .2; below = named-below T (accessChecks T t x m) _ _ refl t _ _ (λ q. rw q refl) h }
-told T (port t p m) e l s h = record { named = named-denied T (portChecks T t p m) _ _ refl t _ _ h .2; below = named-below T (portChecks T t p m) _ _ refl t _ _ (λ q. rw q refl) h }
-told T (task t u i) e l s h = plain-denied T (taskChecks (T .layers) (T .threads) t u i) _ _ refl h
-told T (create t d k) e l s h = record { named = named-denied T (treeCreateChecks T t d k) _ _ refl t _ _ h .2; below = named-below T (treeCreateChecks T t d k) _ _ refl t _ _ (λ q. rw q refl) h }
-told T (remove t x) e l s h = record { named = named-denied T (removeChecks T t x) _ _ refl t _ _ h .2; below = named-below T (removeChecks T t x) _ _ refl t _ _ (λ q. rw q refl) h }
-told T (link t a d) e l s h = record { named = named-denied T (linkChecks T t a d) _ _ refl t _ _ h .2; below = named-below T (linkChecks T t a d) _ _ refl t _ _ (λ q. rw q refl) h }
-told T (rename t a d x) e l s h = record { named = named-denied T (renameChecks T t a d x) _ _ refl t _ _ h .2; below = named-below T (renameChecks T t a d x) _ _ refl t _ _ (λ q. rw q refl) h }
-told T (exchange t a d x) e l s h = record { named = named-denied T (exchangeChecks T t a d x) _ _ refl t _ _ h .2; below = named-below T (exchangeChecks T t a d x) _ _ refl t _ _ (λ q. rw q refl) h }
-
--- a list without the numbers of a verdict, but for those that fail
-others : (T : Tables) (c : Call) (e : Errno) → reply T c ≡ Refused e → (e .0 ≡ EACCES → ⊥) × (e .0 ≡ EXDEV → ⊥)
-unfolding outcomeOf created createDone closed closeDone pathAdded portAdded addDone restrictCall restrictDone cloned cloneDone endCall endDone privsSet adminSet markDone layerRead accessCall portCall taskCall treeCreate treeRemove treeLink treeRename treeExchange createChecks createForm createMasks closeChecks addPathChecks addPortChecks addForm pathForm rulePortForm restrictChecks restrictForm restrictRoom layerChecks cloneChecks endChecks markChecks taskChecks
+unfoldable pub shape : (T : Tables) (c : Call) → Shape T c
+unfolding outcomeOf created createDone closed closeDone pathAdded portAdded addDone restrictCall restrictDone cloned cloneDone endCall endDone privsSet adminSet markDone layerRead accessCall portCall taskCall treeCreate treeRemove treeLink treeRename treeExchange
+    first refusalsOf verdictOn caller createChecks createForm createMasks closeChecks addPathChecks addPortChecks addForm pathForm rulePortForm restrictChecks restrictForm restrictRoom layerChecks cloneChecks endChecks markChecks taskChecks
     accessChecks accessNames accessMask lacks layerLacks portChecks portForm portLacks layerPortLacks
     treeCreateChecks createShape createVerdict createLater removeChecks removeShape removeVerdict removeLater
     linkChecks linkShape linkVerdict linkLater renameChecks renameNames renameShape renameVerdict renameLater exchangeChecks exchangeNames exchangeShape exchangeVerdict verdict layerDenies
-others T (create-ruleset bs flags) e h = (plain-refused T (createChecks T bs flags) _ _ refl EACCES (λ z. omega arith) tt (λ z. omega arith) h, plain-refused T (createChecks T bs flags) _ _ refl EXDEV (λ z. omega arith) tt (λ z. omega arith) h)
-others T (close-ruleset r) e h = (plain-refused T (closeChecks T r) _ _ refl EACCES (λ z. omega arith) tt (λ z. omega arith) h, plain-refused T (closeChecks T r) _ _ refl EXDEV (λ z. omega arith) tt (λ z. omega arith) h)
-others T (add-path-rule r x rights flags) e h = (plain-refused T (addPathChecks T r x rights flags) _ _ refl EACCES (λ z. omega arith) tt (λ z. omega arith) h, plain-refused T (addPathChecks T r x rights flags) _ _ refl EXDEV (λ z. omega arith) tt (λ z. omega arith) h)
-others T (add-port-rule r p rights flags) e h = (plain-refused T (addPortChecks T r p rights flags) _ _ refl EACCES (λ z. omega arith) tt (λ z. omega arith) h, plain-refused T (addPortChecks T r p rights flags) _ _ refl EXDEV (λ z. omega arith) tt (λ z. omega arith) h)
-others T (restrict t r flags) e h = (plain-refused T (restrictChecks T t r flags) _ _ refl EACCES (λ z. omega arith) tt (λ z. omega arith) h, plain-refused T (restrictChecks T t r flags) _ _ refl EXDEV (λ z. omega arith) tt (λ z. omega arith) h)
-others T (layer-rules k) e h = (plain-refused T (layerChecks T k) _ _ refl EACCES (λ z. omega arith) tt (λ z. omega arith) h, plain-refused T (layerChecks T k) _ _ refl EXDEV (λ z. omega arith) tt (λ z. omega arith) h)
-others T (clone t) e h = (plain-refused T (cloneChecks T t) _ _ refl EACCES (λ z. omega arith) tt (λ z. omega arith) h, plain-refused T (cloneChecks T t) _ _ refl EXDEV (λ z. omega arith) tt (λ z. omega arith) h)
-others T (end-thread t) e h = (plain-refused T (endChecks T t) _ _ refl EACCES (λ z. omega arith) tt (λ z. omega arith) h, plain-refused T (endChecks T t) _ _ refl EXDEV (λ z. omega arith) tt (λ z. omega arith) h)
-others T (set-no-new-privs t) e h = (plain-refused T (markChecks T t) _ _ refl EACCES (λ z. omega arith) tt (λ z. omega arith) h, plain-refused T (markChecks T t) _ _ refl EXDEV (λ z. omega arith) tt (λ z. omega arith) h)
-others T (set-admin t on) e h = (plain-refused T (markChecks T t) _ _ refl EACCES (λ z. omega arith) tt (λ z. omega arith) h, plain-refused T (markChecks T t) _ _ refl EXDEV (λ z. omega arith) tt (λ z. omega arith) h)
-others T (access t x m) e h = named-refused T (accessChecks T t x m) _ _ refl t _ _ (λ q. (q, tt)) (λ q. tt) h
-others T (port t p m) e h = named-refused T (portChecks T t p m) _ _ refl t _ _ (λ q. (q, tt)) (λ q. tt) h
-others T (task t u i) e h = (plain-refused T (taskChecks (T .layers) (T .threads) t u i) _ _ refl EACCES (λ z. omega arith) tt (λ z. omega arith) h, plain-refused T (taskChecks (T .layers) (T .threads) t u i) _ _ refl EXDEV (λ z. omega arith) tt (λ z. omega arith) h)
-others T (create t d k) e h = named-refused T (treeCreateChecks T t d k) _ _ refl t _ _ (λ q. (q, tt)) (λ q. tt) h
-others T (remove t x) e h = named-refused T (removeChecks T t x) _ _ refl t _ _ (λ q. (q, tt)) (λ q. tt) h
-others T (link t a d) e h = named-refused T (linkChecks T t a d) _ _ refl t _ _ (λ q. (q, tt)) (λ q. (sym (crosses-any T (linkMove (T .entries) a d) (domainOf T t)) ∙ q, tt)) h
-others T (rename t a d x) e h = named-refused T (renameChecks T t a d x) _ _ refl t _ _ (λ q. (q, tt)) (λ q. (sym (crosses-any T (renameMove (T .entries) a d x) (domainOf T t)) ∙ q, tt)) h
-others T (exchange t a d x) e h = named-refused T (exchangeChecks T t a d x) _ _ refl t _ _ (λ q. (q, tt)) (λ q. (sym (crosses-any T (exchangeMove (T .entries) a d x) (domainOf T t)) ∙ q, tt)) h
+shape T (create-ruleset bs flags) = plain _ _ refl refl tt tt
+shape T (close-ruleset r) = plain _ _ refl refl tt tt
+shape T (add-path-rule r e rights flags) = plain _ _ refl refl tt tt
+shape T (add-port-rule r p rights flags) = plain _ _ refl refl tt tt
+shape T (restrict t r flags) = plain _ _ refl refl tt tt
+shape T (layer-rules l) = plain _ _ refl refl tt tt
+shape T (clone t) = plain _ _ refl refl tt tt
+shape T (end-thread t) = plain _ _ refl refl tt tt
+shape T (set-no-new-privs t) = plain _ _ refl refl tt tt
+shape T (set-admin t on) = plain _ _ refl refl tt tt
+shape T (access t e m) = judged _ _ refl refl (λ q. rw q refl) (λ q. (q, tt)) (λ q. tt)
+shape T (port t p m) = judged _ _ refl refl (λ q. rw q refl) (λ q. (q, tt)) (λ q. tt)
+shape T (task t u i) = plain _ _ refl refl tt tt
+shape T (create t d k) = judged _ _ refl refl (λ q. rw q refl) (λ q. (q, tt)) (λ q. tt)
+shape T (remove t e) = judged _ _ refl refl (λ q. rw q refl) (λ q. (q, tt)) (λ q. tt)
+shape T (link t s d) = judged _ _ refl refl (λ q. rw q refl) (λ q. (q, tt)) (λ q. (sym (crosses-any T (linkMove (T .entries) s d) (domainOf T t)) ∙ q, tt))
+shape T (rename t s d x) = judged _ _ refl refl (λ q. rw q refl) (λ q. (q, tt)) (λ q. (sym (crosses-any T (renameMove (T .entries) s d x) (domainOf T t)) ∙ q, tt))
+shape T (exchange t s d x) = judged _ _ refl refl (λ q. rw q refl) (λ q. (q, tt)) (λ q. (sym (crosses-any T (exchangeMove (T .entries) s d x) (domainOf T t)) ∙ q, tt))
+
+module _ (T : Tables) (c : Call) where
+  abbrev answered : {o : Outcome} {r : Reply} → outcomeOf T c ≡ o → reply T c ≡ r → o .reply ≡ r
+  answered same h = sym (ap (λ (x : Outcome). x .reply) same) ∙ h
+
+  number : Shape T c → errorOf (reply T c) ≡ first (not (sound T) ⇒ EIO ∷ refusalsOf T c)
+  number (plain done n d same a x) = ap (λ (o : Outcome). errorOf (o .reply)) same ∙ call-number T (refusalsOf T c) done n d
+  number (judged done n d same dead a x) = ap (λ (o : Outcome). errorOf (o .reply)) same ∙ named-number T (refusalsOf T c) done n d (caller c) _ _
+
+  -- a refusal "changes no cell"
+  same-left : Shape T c → isDone (reply T c) ≡ false → after T c ≡ T
+  same-left (plain done n d same a x) h = ap (λ (o : Outcome). o .left) same ∙ call-same T (refusalsOf T c) done n d (sym (ap (λ (o : Outcome). isDone (o .reply)) same) ∙ h)
+  same-left (judged done n d same dead a x) h =
+      ap (λ (o : Outcome). o .left) same ∙ call-same T (refusalsOf T c) done n d (sym (ap (λ (o : Outcome). isDone (o .reply)) same ∙ done-named _ _ _ (call T (refusalsOf T c) done .reply)) ∙ h)
+
+  told : Shape T c → (e : Errno) (l : ℕ) (s : Rights) → reply T c ≡ Denied e l s → ByVerdict T c e l s
+  told (plain done n d same a x) e l s h = plain-denied T (refusalsOf T c) done n d (answered same h)
+  told (judged done n d same dead a x) e l s h =
+      let k = answered same h in
+      record { named = named-denied T (refusalsOf T c) done n d (caller c) _ _ k .2; below = named-below T (refusalsOf T c) done n d (caller c) _ _ dead k }
+
+  others : Shape T c → (e : Errno) → reply T c ≡ Refused e → (e .0 ≡ EACCES → ⊥) × (e .0 ≡ EXDEV → ⊥)
+  others (plain done n d same a x) e h =
+      let k = answered same h in
+      (plain-refused T (refusalsOf T c) done n d EACCES (λ z. omega arith) a (λ z. omega arith) k, plain-refused T (refusalsOf T c) done n d EXDEV (λ z. omega arith) x (λ z. omega arith) k)
+  others (judged done n d same dead a x) e h = named-refused T (refusalsOf T c) done n d (caller c) _ _ a x (answered same h)
 
 -- ---- where the sets lie
 none-within : (m : ℕ) → within 0 m ≡ true
@@ -284,16 +272,7 @@ without-join : (a b c : ℕ) → join (without a c) (without b c) ≡ without (j
 without-join a b c = ext-has (join (without a c) (without b c)) (without (join a b) c) (λ i.
     has-join (without a c) (without b c) i
     ∙ ap₂ _||_ (has-without a c i) (has-without b c i)
-    ∙ both-less (has a i) (has b i) (not (has c i))
-    ∙ sym (has-without (join a b) c i ∙ ap (λ (x : Bool). x && not (has c i)) (has-join a b i)))
-  where
-    both-less : (x y z : Bool) → ((x && z) || (y && z)) ≡ ((x || y) && z)
-    both-less true true true = refl
-    both-less true true false = refl
-    both-less true false true = refl
-    both-less true false false = refl
-    both-less false true z = refl
-    both-less false false z = refl
+    ∙ sym (has-without (join a b) c i ∙ ap (λ (x : Bool). x && not (has c i)) (has-join a b i) ∙ and-or-distrib-right (has a i) (has b i) (not (has c i))))
 
 module _ (es : List ℕ) (L : Layer) (m : Move) where
   needs-within : within (deniedNeeds es L m) (without (join (m .leave .0) (m .enter .0)) REFER) ≡ true
@@ -351,5 +330,8 @@ lies T (link t s d) = move-lies T (linkMove (T .entries) s d)
 lies T (rename t s d x) = move-lies T (renameMove (T .entries) s d x)
 lies T (exchange t s d x) = move-lies T (exchangeMove (T .entries) s d x)
 
+pub refused-same : (T : Tables) (c : Call) → isDone (reply T c) ≡ false → after T c ≡ T
+refused-same T c = same-left T c (shape T c)
+
 pub layer-named : LayerNamed
-layer-named = record { number = number; denied = told; others = others; lies = lies }
+layer-named = record { number = λ T c. number T c (shape T c); denied = λ T c. told T c (shape T c); others = λ T c. others T c (shape T c); lies = lies }

@@ -1,5 +1,5 @@
 -- How many entries an access reads: the fewest that leave no layer missing a right, else all. Assumes nothing.
-use mathlib.Core.Path.{_≡_, refl, sym, ap, _∙_}
+use mathlib.Core.Path.{_≡_, refl, ap, _∙_}
 use mathlib.Core.Bool.{true, false, not, false≢true}
 use mathlib.Core.List.{List, [], _∷_}
 use Prim.Native.Nat.{ℕ, zero, suc, _<_, _≤_}
@@ -17,7 +17,7 @@ use Rattle.judge.specs.Judge.{ownRights, granted, handled, missing}
 use Rattle.judge.specs.Domain.{layerLacks, lacks}
 use Rattle.judge.specs.Read.{leftAfter, entriesUp, layerReads, largest, entriesRead}
 use Rattle.judge.proofs.Climbs.{without-none, reads-all, reads-bound, left-all}
-use Rattle.theorems.specs.Read.{missesAfter, FewestRead, EntriesRead}
+use Rattle.theorems.specs.Read.{missesAfter, EntriesRead}
 
 module _ (es rules : List ℕ) where
   left-none : (k e : ℕ) → leftAfter es rules k e 0 ≡ 0

@@ -16,6 +16,7 @@ use Rattle.judge.specs.Judge.{ownRights, granted, handled, denied}
 use Rattle.judge.proofs.Laws.{granted-way, way-granted, has-denied}
 use Rattle.fs.specs.Move.{entryRights}
 use Rattle.kept_tree.proofs.Written.{live-dir}
+use Rattle.kept_tree.proofs.Edits.{Frame}
 
 -- the layer's rule on an object gives right i
 unfoldable pub gives : Layer → ℕ → ℕ → Bool
@@ -72,18 +73,6 @@ dir-holds es e d i q h = rw q (split (isDir es e) (λ p. rw p at h) (λ p. withi
 pub live-same : (es es′ : List ℕ) (x : ℕ) → kind es′ x ≡ kind es x → live es x ≡ true → live es′ x ≡ true
 unfolding live
 live-same es es′ x e l = rw e l
-
--- entries of one kind can hold the same rights
-pub rights-same : (es es′ : List ℕ) (x y : ℕ) → kind es′ x ≡ kind es y → entryRights es′ x ≡ entryRights es y
-unfolding entryRights isDir
-rights-same es es′ x y e = rw e refl
-
--- One change of the tree: what is not gone keeps its kind and its object, and its parent is a directory that was there before and is not gone.
-pub record Frame (es es′ : List ℕ) (gone : ℕ → Bool) : Type 0 where
-  pub keeps-kind : (x : ℕ) → live es x ≡ true → gone x ≡ false → kind es′ x ≡ kind es x
-  pub keeps-object : (x : ℕ) → live es x ≡ true → gone x ≡ false → object es′ x ≡ object es x
-  pub under-dir : (x : ℕ) → live es x ≡ true → gone x ≡ false → isDir es (parent es′ x) ≡ true
-  pub under-kept : (x : ℕ) → live es x ≡ true → gone x ≡ false → gone (parent es′ x) ≡ false
 
 -- For one test and one right: where an entry was shut, its new parent was shut, before the change.
 abbrev pub Above : List ℕ → List ℕ → (ℕ → Bool) → (ℕ → Bool) → ℕ → Type 0

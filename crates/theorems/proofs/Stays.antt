@@ -1,4 +1,4 @@
--- What no call that does not end it takes from a live thread: it stays live, the layers of its domain stay as they are, its domain only grows; and a refusal changes nothing. Assumes nothing.
+-- What no call that does not end it takes from a live thread: it stays live, the layers of its domain stay as they are, its domain only grows. Assumes nothing.
 use mathlib.Core.Path.{_≡_, refl, sym, ap, subst, _∙_}
 use mathlib.Core.Bool.{true, false, not, _&&_}
 use mathlib.Core.List.{List, [], _∷_}
@@ -6,7 +6,7 @@ use Prim.Native.Nat.{ℕ, suc, pred, _+_, _*_, _≤_, _<_}
 use native.Mathlib.Numerals.{add-one}
 use native.Mathlib.Omega.{arith}
 use lib.Dec.{eqb, ltb}
-use lib.ListN.{length, getD}
+use lib.ListN.{length}
 use borrow.Author.Tests.{eqb-true, eqb-false, ltb-true, not-false}
 use Rattle.laws.specs.Tests.{elem}
 use Rattle.laws.specs.Refusals.{Check, first}
@@ -18,9 +18,9 @@ use Rattle.laws.proofs.Copies.{copied-before}
 use Rattle.laws.proofs.Refusals.{passed}
 use Rattle.access.specs.Limits.{maxThreads, maxDomain}
 use Rattle.access.specs.declared.errno.Reply.the-variants.{Done}
-use Rattle.tables.specs.Tables.{Tables, layerWidth, ruleWidth, threadWidth, poolUsed, youngest, noNewPrivs, admin, threadLive}
-use Rattle.tables.specs.Layers.{rulesetAt, layerParent, layerFirst, layerCount, layerAt, layerInUse}
-use Rattle.tables.specs.Outcome.{Outcome, outcome, answer}
+use Rattle.tables.specs.Tables.{Tables, layerWidth, ruleWidth, threadWidth, poolUsed, youngest, threadLive}
+use Rattle.tables.specs.Layers.{rulesetAt, layerParent, layerAt, layerInUse}
+use Rattle.tables.specs.Outcome.{Outcome, outcome}
 use Rattle.judge.specs.Domain.{chain, domain}
 use Rattle.sound.specs.Sound.{sound}
 use Rattle.sound.specs.Call.{call}
@@ -30,7 +30,7 @@ use Rattle.sound_domains.proofs.Hierarchy.{no-thread}
 use Rattle.ruleset.specs.Create.{createDone, created, closeDone, closed}
 use Rattle.rule.specs.Rule.{addDone, pathAdded, portAdded}
 use Rattle.domain_restrict.specs.Restrict.{restrictChecks, freeLayer, restricted, restrictDone, restrictCall}
-use Rattle.domain.specs.Threads.{freeThread, cloneChecks, copiedThread, heldMore, cloneDone, cloned, markDone, privsSet, adminSet}
+use Rattle.domain.specs.Threads.{freeThread, cloneChecks, heldMore, cloneDone, cloned, markDone, privsSet, adminSet}
 use Rattle.domain.specs.Layer.{layerRead}
 use Rattle.fs_access.specs.Access.{accessCall}
 use Rattle.net.specs.Port.{portCall}
@@ -40,18 +40,18 @@ use Rattle.tree.specs.Link.{treeLink}
 use Rattle.tree.specs.Rename.{treeRename}
 use Rattle.tree.specs.Exchange.{treeExchange}
 use Rattle.domain_end.specs.End.{endChecks, ended, endDone, endCall}
-use Rattle.kept_domains.proofs.Rows.{SameRow, row-beside, part-moved}
+use Rattle.kept_domains.proofs.Rows.{row-beside}
 use Rattle.kept_domains.proofs.Counts.{layer-recounted}
-use Rattle.kept_domains.proofs.Marks.{more-same}
+use Rattle.kept_domains.proofs.Marks.{copy-other, more-same}
 use Rattle.kept_domains.proofs.Chains.{chain-around, chain-agree}
 use Rattle.kept_domains.proofs.Threads.{live-below}
-use Rattle.kept_domains.proofs.Layers.{newLayers, newPool, new-other, new-parent, pool-length}
+use Rattle.kept_domains.proofs.Layers.{newLayers, newPool, new-other, new-parent, pool-length, layer-same}
 use Rattle.kept_domains.proofs.Restrict.{Allowed, allowed, record-free, unheld, unnamed, has, same-parent}
 use Rattle.kept_end.proofs.Put.{domain-in-use}
 use Rattle.kept_end.proofs.End.{ended-lives, ended-domain, ended-layer, end-live}
 use Rattle.theorems.specs.Calls.{Call, create-ruleset, close-ruleset, add-path-rule, add-port-rule, restrict, layer-rules, clone, end-thread, set-no-new-privs, set-admin, access, port, task, create, remove, link, rename, exchange, outcomeOf, after, reply, afterAll, isDone, wouldEnd, ends}
 use Rattle.theorems.specs.Claim.{domainOf, Grown, Lives}
-use Rattle.theorems.proofs.Naming.{done-named}
+use Rattle.theorems.proofs.Naming.{call-cases}
 use Rattle.theorems.proofs.Chains.{chain-less}
 
 -- what tables T′ keep of T for a thread t that is live in T
@@ -61,20 +61,8 @@ pub record Stays (T T′ : Tables) (t : ℕ) : Type 0 where
   pub grown : Grown (domainOf T t) (domainOf T′ t)
 
 -- ---- any call: it is refused and changes nothing, or what it does keeps
-module _ (T : Tables) (cs : List Check) (done : Outcome) where
-  call-stays : (v : ℕ) → Stays T T v → (sound T ≡ true → first cs ≡ 0 → Stays T (done .left) v) → Stays T (call T cs done .left) v
-  unfolding call answer first
-  call-stays v s f = split (sound T)
-      (λ h. split (eqb (first cs) 0) (λ q. rw (h, q) (f h (eqb-true (first cs) 0 q))) (λ q. rw (h, q) s))
-      (λ h. rw h s)
-
-  call-same : (n : ℕ) → done .reply ≡ Done n → isDone (call T cs done .reply) ≡ false → call T cs done .left ≡ T
-  unfolding call answer first
-  call-same n d r = split (sound T)
-      (λ h. split (eqb (first cs) 0)
-      (λ q. let k : isDone (done .reply) ≡ false = rw (h, q) at r in clash (isDone (done .reply)) (ap isDone d) k)
-      (λ q. rw (h, q) refl))
-      (λ h. rw h refl)
+call-stays : (T : Tables) (cs : List Check) (done : Outcome) (v : ℕ) → Stays T T v → (sound T ≡ true → first cs ≡ 0 → Stays T (done .left) v) → Stays T (call T cs done .left) v
+call-stays T cs done v s f = call-cases T cs done (λ o. Stays T (o .left) v) (λ h. s) (λ h z. s) f
 
 -- ---- parents, masks, rules and the thread's layer stand
 module _ (T T′ : Tables) (t : ℕ)
@@ -97,20 +85,6 @@ stays-self : (T : Tables) (t : ℕ) → threadLive (T .threads) t ≡ true → S
 stays-self T t v = stays-alone T T t v refl refl refl
 
 -- ---- restrict
-layer-same : (ls ls′ ps ps′ : List ℕ) (l taken : ℕ) → SameRow ls ls′ layerWidth l → length ps′ ≡ length ps → ruleWidth * taken ≤ length ps
-    → ((n : ℕ) → n < ruleWidth * taken → getD ps′ n 0 ≡ getD ps n 0)
-    → layerFirst ls l + layerCount ls l ≤ taken → layerAt ls′ ps′ l ≡ layerAt ls ps l
-unfolding layerAt
-layer-same ls ls′ ps ps′ l taken same long fits pool h =
-    rw (
-      same 1 (omega arith),
-      same 2 (omega arith),
-      same 3 (omega arith),
-      same 4 (omega arith),
-      same 5 (omega arith),
-      part-moved ps ps′ (ruleWidth * layerFirst ls l) (ruleWidth * layerFirst ls l) (ruleWidth * layerCount ls l) (omega arith) (omega arith) (λ i k. pool (ruleWidth * layerFirst ls l + i) (omega arith)),
-    )
-
 module _ (T : Tables) (t r : ℕ) (S : Sound T) (A : Allowed T t r) where
   abbrev ls : List ℕ
   ls = T .layers
@@ -186,18 +160,6 @@ module _ (T : Tables) (t r : ℕ) (S : Sound T) (A : Allowed T t r) where
   }
 
 -- ---- clone: a row that was free
-copy-other : (ts : List ℕ) (u t j : ℕ) → (j ≡ u → ⊥) → SameRow ts (copiedThread ts u t) threadWidth j
-unfolding copiedThread
-copy-other ts u t j d =
-    let a : List ℕ = putCell ts threadWidth u 0 1 in
-    let b : List ℕ = putCell a threadWidth u 1 (youngest ts t) in
-    let c : List ℕ = putCell b threadWidth u 2 (noNewPrivs ts t) in
-    λ k h.
-    row-beside c threadWidth u 3 (admin ts t) j (omega arith) d k h
-    ∙ row-beside b threadWidth u 2 (noNewPrivs ts t) j (omega arith) d k h
-    ∙ row-beside a threadWidth u 1 (youngest ts t) j (omega arith) d k h
-    ∙ row-beside ts threadWidth u 0 1 j (omega arith) d k h
-
 free-thread : (ts : List ℕ) (u : ℕ) → ltb (freeThread ts) maxThreads ≡ true → threadLive ts u ≡ true → u ≡ freeThread ts → ⊥
 unfolding freeThread
 free-thread ts u h v e =
@@ -262,28 +224,6 @@ stays T (remove t e) v w keeps = call-stays T _ _ v (stays-self T v w) (λ h z. 
 stays T (link t s d) v w keeps = call-stays T _ _ v (stays-self T v w) (λ h z. stays-alone T _ v w refl refl refl)
 stays T (rename t s d x) v w keeps = call-stays T _ _ v (stays-self T v w) (λ h z. stays-alone T _ v w refl refl refl)
 stays T (exchange t s d x) v w keeps = call-stays T _ _ v (stays-self T v w) (λ h z. stays-alone T _ v w refl refl refl)
-
--- a refusal "changes no cell"
-pub refused-same : (T : Tables) (c : Call) → isDone (reply T c) ≡ false → after T c ≡ T
-unfolding outcomeOf created createDone closed closeDone pathAdded portAdded addDone restrictCall restrictDone cloned cloneDone endCall endDone privsSet adminSet markDone layerRead accessCall portCall taskCall treeCreate treeRemove treeLink treeRename treeExchange
-refused-same T (create-ruleset bs flags) h = call-same T _ _ _ refl h
-refused-same T (close-ruleset r) h = call-same T _ _ _ refl h
-refused-same T (add-path-rule r x rights flags) h = call-same T _ _ _ refl h
-refused-same T (add-port-rule r p rights flags) h = call-same T _ _ _ refl h
-refused-same T (restrict t r flags) h = call-same T _ _ _ refl h
-refused-same T (layer-rules l) h = call-same T _ _ _ refl h
-refused-same T (clone t) h = call-same T _ _ _ refl h
-refused-same T (end-thread t) h = call-same T _ _ _ refl h
-refused-same T (set-no-new-privs t) h = call-same T _ _ _ refl h
-refused-same T (set-admin t on) h = call-same T _ _ _ refl h
-refused-same T (access t x m) h = call-same T _ _ _ refl (sym (done-named _ _ _ _) ∙ h)
-refused-same T (port t p m) h = call-same T _ _ _ refl (sym (done-named _ _ _ _) ∙ h)
-refused-same T (task t u i) h = call-same T _ _ _ refl h
-refused-same T (create t d k) h = call-same T _ _ _ refl (sym (done-named _ _ _ _) ∙ h)
-refused-same T (remove t x) h = call-same T _ _ _ refl (sym (done-named _ _ _ _) ∙ h)
-refused-same T (link t s d) h = call-same T _ _ _ refl (sym (done-named _ _ _ _) ∙ h)
-refused-same T (rename t s d x) h = call-same T _ _ _ refl (sym (done-named _ _ _ _) ∙ h)
-refused-same T (exchange t s d x) h = call-same T _ _ _ refl (sym (done-named _ _ _ _) ∙ h)
 
 -- ---- a list of calls
 stays-on : (T T1 T2 : Tables) (t : ℕ) → Stays T T1 t → Stays T1 T2 t → Stays T T2 t

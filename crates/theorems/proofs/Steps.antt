@@ -1,6 +1,6 @@
 -- One call: what it does to the entries, in the eyes of one layer of the caller's domain and one right. Assumes nothing.
 use mathlib.Core.Path.{_≡_, refl, sym}
-use mathlib.Core.Bool.{Bool, true, false, not, _&&_}
+use mathlib.Core.Bool.{Bool, true, false, not, _&&_, and-false}
 use mathlib.Core.List.{List}
 use Prim.Native.Nat.{ℕ}
 use native.Mathlib.Omega.{arith}
@@ -15,7 +15,7 @@ use Rattle.access.specs.Rights.{has}
 use Rattle.access.specs.declared.errno.Reply.{Reply}
 use Rattle.tables.specs.Tables.{Tables, counter, kind, parent, object, live, isDir}
 use Rattle.tables.specs.Layers.{layerAt}
-use Rattle.tables.specs.Outcome.{Outcome, outcome, answer, naming}
+use Rattle.tables.specs.Outcome.{Outcome, outcome, naming}
 use Rattle.sound_tree.proofs.Facts.{Tree}
 use Rattle.sound.specs.Sound.{sound}
 use Rattle.sound.specs.Call.{call}
@@ -43,12 +43,12 @@ use Rattle.tree.specs.Rename.{renameNames, renameShape, renameVerdict, renameLa
 use Rattle.tree.specs.Exchange.{exchangeNames, exchangeShape, exchangeVerdict, exchangeChecks, swapped, treeExchange}
 use Rattle.theorems.specs.Calls.{Call, create-ruleset, close-ruleset, add-path-rule, add-port-rule, restrict, layer-rules, clone, end-thread, set-no-new-privs, set-admin, access, port, task, create, remove, link, rename, exchange, outcomeOf, after, caller, isDone, wouldFree, frees}
 use Rattle.theorems.specs.Claim.{domainOf}
-use Rattle.theorems.proofs.Naming.{done-named}
-use Rattle.theorems.proofs.Shut.{gives, Shut, shut-up, Frame, Above}
-use Rattle.kept_tree.proofs.Clear.{Childless, childless}
+use Rattle.theorems.proofs.Naming.{call-cases, done-named}
+use Rattle.theorems.proofs.Shut.{gives, Shut, shut-up, Above}
+use Rattle.kept_tree.proofs.Clear.{childless}
 use Rattle.kept_tree.proofs.Fill.{free-entry}
 use Rattle.kept_tree.proofs.Written.{put-other, length-move, live-dir}
-use Rattle.theorems.proofs.Edits.{at-parent, inside, still-frame, fill-frame, clear-frame, move-frame, replace-frame, swap-frame}
+use Rattle.kept_tree.proofs.Edits.{Frame, Childless, at-parent, inside, still-frame, fill-frame, clear-frame, move-frame, replace-frame, swap-frame}
 use Rattle.theorems.proofs.Contained.{shut-there, shut-back}
 
 pub record Step (T : Tables) (u : ℕ) (es′ : List ℕ) (gone : ℕ → Bool) : Type 0 where
@@ -71,10 +71,7 @@ module _ (T : Tables) (s : sound T ≡ true) where
   }
 
   call-step : (u : ℕ) (cs : List Check) (done : Outcome) (w : ℕ → Bool) → (first cs ≡ 0 → StepOf T u done w) → StepOf T u (call T cs done) w
-  unfolding call answer first
-  call-step u cs done w f = split (eqb (first cs) 0)
-      (λ q. rw (s, q) (f (eqb-true (first cs) 0 q)))
-      (λ q. rw (s, q) (still-step u (λ e. false) (λ z. refl)))
+  call-step u cs done w f = call-cases T cs done (λ o. StepOf T u o w) (λ h. clash (sound T) s h) (λ h z. still-step u (λ e. false) (λ e. refl)) (λ h. f)
 
   -- a call with a verdict, which names a layer
   verdict-step : (a b : ℕ → ℕ) (D : List ℕ) (u : ℕ) (cs : List Check) (done : Outcome) (w : ℕ → Bool) → (first cs ≡ 0 → StepOf T u done w)
@@ -197,11 +194,7 @@ module _ (T : Tables) (s : sound T ≡ true) where
 
   -- every other call leaves the entries alone
   other-done : (u : ℕ) (done : Outcome) → done .left .entries ≡ T .entries → StepOf T u done (λ e. false)
-  other-done u done q = rw q (still-step u (λ e. isDone (done .reply) && false) (λ e. none (isDone (done .reply))))
-    where
-      none : (b : Bool) → (b && false) ≡ false
-      none true = refl
-      none false = refl
+  other-done u done q = rw q (still-step u (λ e. isDone (done .reply) && false) (λ e. and-false (isDone (done .reply))))
 
   other-step : (u : ℕ) (cs : List Check) (done : Outcome) → done .left .entries ≡ T .entries → StepOf T u (call T cs done) (λ e. false)
   other-step u cs done q = call-step u cs done (λ e. false) (λ z. other-done u done q)

@@ -1,8 +1,8 @@
 //! The tables and the questions that are measured, the same in every run.
 
 use crate::landlock::{
-    ALL_FS, ALL_NET, DIRECTORY, FILE_SET, LAST_LEVEL, MAKE_REG, PATH_RULE, PORT_RULE, READ_FILE,
-    REFER, REGULAR, REMOVE_FILE,
+    held_rights, ALL_FS, ALL_NET, DIRECTORY, FILE_SET, LAST_LEVEL, MAKE_REG, PATH_RULE, PORT_RULE,
+    READ_FILE, REFER, REGULAR, REMOVE_FILE,
 };
 use crate::tables::{Tables, HOLDERS};
 use random::Random;
@@ -193,6 +193,15 @@ pub fn spread(mut tables: Tables, factor: u64) -> Tables {
         rule[1] *= factor;
     }
     tables
+}
+
+/// A random entry with one or two of the rights that its kind can hold.
+pub fn access_request(tables: &Tables, random: &mut Random) -> (u64, u64) {
+    let entry = random.below(tables.live_entries());
+    let held = held_rights(tables.kind(entry));
+    let bits: Vec<u64> = (0..16).filter(|bit| held >> bit & 1 == 1).collect();
+    let asked = 1 << random.pick(&bits) | 1 << random.pick(&bits);
+    (entry, asked)
 }
 
 /// Tables in the making.

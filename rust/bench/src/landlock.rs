@@ -24,6 +24,7 @@ pub const LAST_LEVEL: u64 = 6;
 /// The object counter once no number is left.
 pub const OBJECTS_END: u64 = 1 << 32;
 
+pub const EPERM: u64 = 1;
 pub const ENOENT: u64 = 2;
 pub const ESRCH: u64 = 3;
 pub const EIO: u64 = 5;
@@ -33,6 +34,7 @@ pub const EBUSY: u64 = 16;
 pub const EEXIST: u64 = 17;
 pub const EXDEV: u64 = 18;
 pub const ENOTDIR: u64 = 20;
+pub const EISDIR: u64 = 21;
 pub const EINVAL: u64 = 22;
 pub const ENOSPC: u64 = 28;
 pub const ENAMETOOLONG: u64 = 36;

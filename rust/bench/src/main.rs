@@ -6,13 +6,14 @@ mod inputs;
 mod landlock;
 mod measure;
 mod plain;
+mod requests;
 mod sections;
 mod tables;
 
 use measure::Effort;
 use sections::{Section, SECTIONS};
 
-const USAGE: &str = "usage: bench [--quick] [parts|verdicts|calls|soundness]..";
+const USAGE: &str = "usage: bench [--quick] [parts|verdicts|batch|calls|soundness]..";
 
 struct Options {
     effort: Effort,

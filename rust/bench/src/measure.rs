@@ -10,6 +10,8 @@ pub struct Effort {
     pub runs: usize,
     /// Nanoseconds that a run of the slowest side takes, about.
     pub run: f64,
+    /// Nanoseconds after which no further run of batches is begun, for each program.
+    pub batches: f64,
     /// Damaged variants of each input that the soundness tests are compared on.
     pub damages: usize,
 }
@@ -18,11 +20,13 @@ impl Effort {
     pub const FULL: Effort = Effort {
         runs: 101,
         run: 2e6,
+        batches: 2e8,
         damages: 300,
     };
     pub const QUICK: Effort = Effort {
         runs: 3,
         run: 2e5,
+        batches: 2e7,
         damages: 40,
     };
 }
@@ -86,6 +90,19 @@ fn one_run(side: &mut dyn Side, questions: u64) -> f64 {
     let start = Instant::now();
     side.run(questions);
     start.elapsed().as_nanos() as f64 / questions as f64
+}
+
+/// Nanoseconds of processor time that this thread has taken: other work on the machine doesn't lengthen a long run by it.
+pub fn processor_time() -> f64 {
+    const OF_THIS_THREAD: i32 = 3;
+    extern "C" {
+        fn clock_gettime(clock: i32, at: *mut [i64; 2]) -> i32;
+    }
+    let mut at = [0; 2];
+    // Seconds and nanoseconds are written there.
+    let failed = unsafe { clock_gettime(OF_THIS_THREAD, &mut at) };
+    assert_eq!(failed, 0, "Linux has this clock");
+    at[0] as f64 * 1e9 + at[1] as f64
 }
 
 /// Begins a table in Markdown.

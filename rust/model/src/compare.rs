@@ -1,7 +1,7 @@
 //! A broker and the model side by side, driven through random lists of calls.
 
 use crate::attributes::{self, LONGEST};
-use crate::batch::{lent, Batch};
+use crate::batch::{asked, Batch};
 use crate::call::{Broker, Call, Reply};
 use crate::damage::{pokes, undo, Poke};
 use crate::generate::{access_request, call, every_call, Mix};
@@ -413,7 +413,7 @@ impl<B: Broker> Session<'_, B> {
         if run.batch_random.chance(self.batch) {
             let model = self.pair.reference.model();
             let model = model.unwrap_or(&self.case.start);
-            let batch = lent::batch(model, &mut run.batch_random);
+            let batch = asked::batch(model, &mut run.batch_random);
             let difference = self.take(run.tally, Step::Batch(batch));
             if difference.is_some() {
                 return difference;
@@ -517,7 +517,7 @@ impl<B: Broker> Session<'_, B> {
             request: access_request(model, &mut run.queue_random),
         };
         let events = [post, Event::Turn].map(Step::Queue).into_iter();
-        let batch = Step::Batch(lent::batch(model, &mut run.batch_random));
+        let batch = Step::Batch(asked::batch(model, &mut run.batch_random));
         let calls = every_call(model, &mut run.random).into_iter();
         let mut steps = events.chain([batch]).chain(calls.map(Step::Call));
         steps.find_map(|step| {

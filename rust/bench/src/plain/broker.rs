@@ -24,9 +24,9 @@ pub type Report = [u64; 3];
 
 type Answer = Result<u64, Verdict>;
 
-fn refuse(applies: bool, errno: u64) -> Result<(), Verdict> {
+pub fn refuse(applies: bool, errno: u64) -> Result<(), u64> {
     if applies {
-        Err(Verdict::refused(errno))
+        Err(errno)
     } else {
         Ok(())
     }
@@ -114,7 +114,7 @@ impl Broker {
     /// What every call tests first.
     fn begin(self, tables: &Tables, thread: u64) -> Result<(), Verdict> {
         refuse(!(self.is_sound)(tables), EIO)?;
-        refuse(!tables.is_thread(thread), ESRCH)
+        Ok(refuse(!tables.is_thread(thread), ESRCH)?)
     }
 
     fn accessed(
@@ -290,7 +290,7 @@ fn free_entry(tables: &Tables) -> Option<u64> {
     Some(place as u64)
 }
 
-fn name_good(name: &[u8]) -> Result<(), Verdict> {
+pub fn name_good(name: &[u8]) -> Result<(), u64> {
     refuse(name.len() > MAX_NAME, ENAMETOOLONG)?;
     refuse(name.is_empty() || is_bad(name), EINVAL)
 }

@@ -1,5 +1,6 @@
 //! The same work in ordinary Rust.
 
+pub mod batch;
 pub mod broker;
 pub mod own;
 pub mod soundness;

@@ -88,7 +88,7 @@ impl Policy {
         joined(self.domain(thread).map(|(number, layer)| {
             let at_source = self.denied(layer, parent, step.leave | compared);
             let at_target = self.denied(layer, directory, step.enter | compared);
-            let own = || layer.rights_on(object);
+            let own = |object| layer.rights_on(object);
             step.judged(number, at_source, at_target, own)
         }))
     }

@@ -46,6 +46,12 @@ pub struct Verdict {
     pub entries_read: u64,
 }
 
+impl From<u64> for Verdict {
+    fn from(errno: u64) -> Verdict {
+        Verdict::refused(errno)
+    }
+}
+
 impl Verdict {
     /// A refusal that is no layer's.
     pub fn refused(errno: u64) -> Verdict {
@@ -117,27 +123,44 @@ pub fn granted_by_all(layers: impl Iterator<Item = (u64, (u64, u64))>) -> Verdic
     verdict
 }
 
-/// A move of an entry to a directory, with nothing replaced.
+/// What moves: its object, and the rights that its kind can hold.
+#[derive(Clone, Copy, Default)]
+pub struct Moved {
+    pub object: u64,
+    pub held: u64,
+}
+
+impl Moved {
+    pub fn new(kind: u64, object: u64) -> Moved {
+        Moved {
+            object,
+            held: held_rights(kind),
+        }
+    }
+}
+
+/// A move of an entry to a directory, and of another one the other way if they are exchanged.
 pub struct Move {
     pub from: u64,
     pub to: u64,
     /// The needs other than REFER at each.
     pub leave: u64,
     pub enter: u64,
-    pub object: u64,
-    /// The rights that the moved entry can hold.
-    pub held: u64,
+    pub there: Moved,
+    /// Holds no right if nothing moves back.
+    pub back: Moved,
 }
 
 impl Move {
+    /// A rename with nothing replaced.
     pub fn new(kind: u64, from: u64, to: u64, object: u64) -> Move {
         Move {
             from,
             to,
             leave: remove_right(kind),
             enter: make_right(kind),
-            object,
-            held: held_rights(kind),
+            there: Moved::new(kind, object),
+            back: Moved::default(),
         }
     }
 
@@ -146,7 +169,7 @@ impl Move {
         if self.from == self.to {
             0
         } else {
-            REFER | self.held
+            REFER | self.there.held | self.back.held
         }
     }
 
@@ -155,17 +178,20 @@ impl Move {
         self.leave & at_source | self.enter & at_target
     }
 
-    /// REFER if it is denied, else the rights that fail containment; `own` are those of the rule on the moved object.
-    fn crossing(&self, at_source: u64, at_target: u64, own: impl Fn() -> u64) -> u64 {
+    /// REFER if it is denied, else the rights that fail containment; `own` are those of the rule on an object.
+    fn crossing(&self, at_source: u64, at_target: u64, own: impl Fn(u64) -> u64) -> u64 {
         if self.from == self.to {
             return 0;
         }
         let refer = (at_source | at_target) & REFER;
-        let gained = at_source & self.held & !at_target;
-        if refer != 0 || gained == 0 {
+        if refer != 0 {
             return refer;
         }
-        gained & !own()
+        let gained = |moved: &Moved, gained: u64| match gained & moved.held {
+            0 => 0,
+            some => some & !own(moved.object),
+        };
+        gained(&self.there, at_source & !at_target) | gained(&self.back, at_target & !at_source)
     }
 
     /// What a layer answers that denies these rights at each directory.
@@ -174,7 +200,7 @@ impl Move {
         layer: u64,
         at_source: u64,
         at_target: u64,
-        own: impl Fn() -> u64,
+        own: impl Fn(u64) -> u64,
     ) -> Verdict {
         let denied = self.denied(at_source, at_target);
         let crossing = || self.crossing(at_source, at_target, own);
@@ -220,7 +246,7 @@ pub fn rename_verdict(tables: &Tables, thread: u64, source: u64, directory: u64)
     joined(domain(tables, tables.youngest(thread)).map(|layer| {
         let at_source = layer.denied(&tables.entries, step.from, step.leave | compared);
         let at_target = layer.denied(&tables.entries, step.to, step.enter | compared);
-        let own = || rights_on(layer.rules, step.object);
+        let own = |object| rights_on(layer.rules, object);
         step.judged(layer.number, at_source, at_target, own)
     }))
 }

@@ -1,8 +1,7 @@
 //! Whole calls: a soundness test, the refusals, the change.
 
-use super::verdicts::access_request;
 use super::{policies, sound_tables};
-use crate::inputs::{self, Questions};
+use crate::inputs::{self, access_request, Questions};
 use crate::landlock::{DIRECTORY, REGULAR};
 use crate::measure::{against, differ, duration, line, table, time, Effort, Side};
 use crate::plain::broker::{Broker, Report};

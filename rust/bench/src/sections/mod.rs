@@ -1,5 +1,6 @@
 //! What is measured.
 
+mod batch;
 mod calls;
 mod parts;
 mod soundness;
@@ -14,7 +15,7 @@ pub struct Section {
     pub run: fn(Effort),
 }
 
-pub const SECTIONS: [Section; 4] = [
+pub const SECTIONS: [Section; 5] = [
     Section {
         name: "parts",
         run: parts::run,
@@ -22,6 +23,10 @@ pub const SECTIONS: [Section; 4] = [
     Section {
         name: "verdicts",
         run: verdicts::run,
+    },
+    Section {
+        name: "batch",
+        run: batch::run,
     },
     Section {
         name: "calls",

@@ -2,8 +2,8 @@
 
 use super::policies;
 use crate::core;
-use crate::inputs::{self, Questions, Refer, QUESTIONS};
-use crate::landlock::{held_rights, DIRECTORY};
+use crate::inputs::{self, access_request, Questions, Refer, QUESTIONS};
+use crate::landlock::DIRECTORY;
 use crate::measure::{against, agree, line, table, time, Effort, Side};
 use crate::plain::broker::is_above;
 use crate::plain::own::Policy;
@@ -41,15 +41,6 @@ pub fn run(effort: Effort) {
     for (name, tables) in &policies {
         rename(effort, &format!("rename, {name}"), tables);
     }
-}
-
-/// A random entry with one or two of the rights that its kind can hold.
-pub fn access_request(tables: &Tables, random: &mut Random) -> (u64, u64) {
-    let entry = random.below(tables.live_entries());
-    let held = held_rights(tables.kind(entry));
-    let bits: Vec<u64> = (0..16).filter(|bit| held >> bit & 1 == 1).collect();
-    let asked = 1 << random.pick(&bits) | 1 << random.pick(&bits);
-    (entry, asked)
 }
 
 /// A random entry and a random directory that it doesn't stand above.

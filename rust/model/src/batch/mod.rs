@@ -1,9 +1,9 @@
 //! Request W9: a batch of access, port, link, rename and exchange requests, each of which is answered as its call
 //! would be on these tables, up to and with the verdict.
 //!
-//! [`lent`] makes random batches.
+//! [`asked`] makes random batches.
 
-pub mod lent;
+pub mod asked;
 
 use crate::call::Call;
 use crate::refusal::{Answer, Refusal};

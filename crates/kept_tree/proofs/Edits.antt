@@ -1,4 +1,4 @@
--- The frame of each change of the tree. Assumes nothing.
+-- What a change of the tree leaves: the frame of each change. Assumes nothing.
 use mathlib.Core.Path.{_≡_, refl, sym, _∙_}
 use mathlib.Core.Bool.{Bool, true, false}
 use mathlib.Core.List.{List}
@@ -11,10 +11,19 @@ use Rattle.laws.proofs.Bools.{split, clash}
 use Rattle.laws.proofs.Cells.{cell-put, cell-put-other}
 use Rattle.tables.specs.Tables.{kind, parent, object, live, isDir}
 use Rattle.sound_tree.proofs.Facts.{Tree}
-use Rattle.kept_tree.proofs.Clear.{Childless}
-use Rattle.kept_tree.proofs.Written.{put-other, kind-move, object-move, length-move}
 use Rattle.tree.specs.Entries.{putEntry, putParent, freeRow}
-use Rattle.theorems.proofs.Shut.{Frame}
+use Rattle.kept_tree.proofs.Written.{put-other, kind-move, object-move, length-move}
+
+-- what is not gone keeps its kind and its object, and its parent is a directory that was there before and is not gone
+pub record Frame (es es′ : List ℕ) (gone : ℕ → Bool) : Type 0 where
+  pub keeps-kind : (x : ℕ) → live es x ≡ true → gone x ≡ false → kind es′ x ≡ kind es x
+  pub keeps-object : (x : ℕ) → live es x ≡ true → gone x ≡ false → object es′ x ≡ object es x
+  pub under-dir : (x : ℕ) → live es x ≡ true → gone x ≡ false → isDir es (parent es′ x) ≡ true
+  pub under-kept : (x : ℕ) → live es x ≡ true → gone x ≡ false → gone (parent es′ x) ≡ false
+
+-- no live entry stands in e
+abbrev pub Childless : List ℕ → ℕ → Type 0
+Childless es e = (x : ℕ) → live es x ≡ true → parent es x ≡ e → ⊥
 
 module _ (es : List ℕ) (s d : ℕ) where
   -- the parent after a move

@@ -1,0 +1,4 @@
+pub mod Locals
+pub mod Named
+pub mod Tables
+pub mod Walks

@@ -1,0 +1,3 @@
+-- The queue's slots as records.
+pub mod Slots
+pub mod Fair
