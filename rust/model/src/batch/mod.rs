@@ -49,7 +49,7 @@ impl Sort {
     }
 }
 
-/// What a caller lends beside the tables.
+/// What a caller gives beside the tables.
 #[derive(Clone, PartialEq, Eq, Debug, Default)]
 pub struct Batch {
     pub requests: Vec<u64>,
