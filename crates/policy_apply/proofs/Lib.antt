@@ -1,0 +1,4 @@
+-- The laws of applying.
+pub mod Calls
+pub mod Rows
+pub mod Undone

@@ -1,0 +1,2 @@
+-- What the reader of a field tells.
+pub mod Fields

@@ -1,0 +1,2 @@
+-- The laws of the reader of a file.
+pub mod Reading

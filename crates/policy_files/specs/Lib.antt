@@ -1,0 +1,2 @@
+-- What the reader of a file tells of one field.
+pub mod Next

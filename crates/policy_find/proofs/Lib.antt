@@ -1,0 +1,2 @@
+-- The laws of what a name means.
+pub mod Finding

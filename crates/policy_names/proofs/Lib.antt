@@ -1,0 +1,2 @@
+-- The laws of names in buckets.
+pub mod Buckets

@@ -1,0 +1,2 @@
+-- Names of rulesets in buckets.
+pub mod Buckets

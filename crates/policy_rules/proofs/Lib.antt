@@ -1,0 +1,2 @@
+-- The laws of what the readers tell.
+pub mod Items

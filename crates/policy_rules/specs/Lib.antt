@@ -1,0 +1,2 @@
+-- What the readers of rules and groups tell.
+pub mod Items
