@@ -61,5 +61,8 @@ ENOTEMPTY = 39
 abbrev pub ENOMSG : ℕ
 ENOMSG = 42
 
+abbrev pub EBADMSG : ℕ
+EBADMSG = 74
+
 abbrev pub EOPNOTSUPP : ℕ
 EOPNOTSUPP = 95

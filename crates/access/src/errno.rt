@@ -47,6 +47,8 @@ impl Errno {
 
     pub const ENOMSG: Errno = Errno(42);
 
+    pub const EBADMSG: Errno = Errno(74);
+
     pub const EOPNOTSUPP: Errno = Errno(95);
 }
 
