@@ -9,30 +9,13 @@ unfolding renameShape
 rename-shape-spec =
     tie.close
     (tie.spec
-    (λ c. first-is (hit-eq (c .if1 .taken)))
+    (λ c. first-is (search (hit-eq, miss-ne) depth 16))
     (λ c κs. tt)
-    (λ c. let i1 = c .before .before in first-is (miss-ne (i1 .if1 .left) (hit-by (c .before .is-root .ensures) (c .if2 .taken))))
+    (λ c. first-is (search (hit-by, miss-ne) depth 16))
     (λ c κs. tt)
-    (λ c.
-    let i2 = c .before .before in
-    let i1 = i2 .before .before in
-    first-is (miss-ne (i1 .if1 .left) (miss-by (i2 .before .is-root .ensures) (i2 .if2 .left) (hit-not (c .before .is-dir .ensures) (c .if3 .taken)))))
+    (λ c. first-is (search (hit-not, miss-ne, miss-by) depth 16))
     (λ c κs. tt)
-    (λ c.
-    let i3 = c .before .before in
-    let i2 = i3 .before .before in
-    let i1 = i2 .before .before in
-    first-is (miss-ne (i1 .if1 .left) (miss-by (i2 .before .is-root .ensures) (i2 .if2 .left) (miss-not (i3 .before .is-dir .ensures) (i3 .if3 .left) (hit-by (c .before .is-elsewhere .ensures) (c .if4 .taken))))))
+    (λ c. first-is (search (hit-by, miss-ne, miss-by, miss-not) depth 16))
     (λ c κs. tt)
-    (λ c.
-    let i4 = c .before .before in
-    let i3 = i4 .before .before in
-    let i2 = i3 .before .before in
-    let i1 = i2 .before .before in
-    first-is (miss-ne (i1 .if1 .left) (miss-by (i2 .before .is-root .ensures) (i2 .if2 .left) (miss-not (i3 .before .is-dir .ensures) (i3 .if3 .left) (miss-by (i4 .before .is-elsewhere .ensures) (i4 .if4 .left) (hit-by (c .before .is-above .ensures) (c .if5 .taken)))))))
-    (λ c.
-    let i4 = c .before .before in
-    let i3 = i4 .before .before in
-    let i2 = i3 .before .before in
-    let i1 = i2 .before .before in
-    first-is (miss-ne (i1 .if1 .left) (miss-by (i2 .before .is-root .ensures) (i2 .if2 .left) (miss-not (i3 .before .is-dir .ensures) (i3 .if3 .left) (miss-by (i4 .before .is-elsewhere .ensures) (i4 .if4 .left) (miss-by (c .before .is-above .ensures) (c .if5 .left) none)))))))
+    (λ c. first-is (search (hit-by, miss-ne, miss-by, miss-not) depth 16))
+    (λ c. first-is (search (none, miss-ne, miss-by, miss-not) depth 16)))
