@@ -2,12 +2,11 @@
 use mathlib.Core.Path.{_≡_, refl, sym, ap, subst}
 use mathlib.Core.Bool.{true, false, not, false≢true}
 use mathlib.Core.List.{List, [], _∷_}
-use Prim.Native.Nat.{ℕ, _<_}
+use Prim.Native.Nat.{ℕ}
 use lib.Dec.{eqb, ltb}
-use borrow.Author.Tests.{eqb-true, eqb-false, eq-eqb, ltb-true, not-true, not-false}
+use borrow.Author.Tests.{eqb-true, eqb-false, eq-eqb, ltb-true, not-false}
 use Rattle.laws.specs.Refusals.{Check, _⇒_, first}
 use Rattle.laws.proofs.Bools.{split, clash, both, or-l}
-use Rattle.laws.proofs.Tests.{first-passes}
 use Rattle.laws.proofs.Refusals.{passed}
 use Rattle.laws.proofs.Joined.{join-left, join-right}
 use Rattle.access.specs.Errno.{EIO}
@@ -30,6 +29,7 @@ use Rattle.fs_access.specs.Access.{accessCall}
 use Rattle.net.specs.Port.{portCall}
 use Rattle.task.specs.Task.{taskCall}
 use Rattle.kept_end.proofs.End.{ended-entries}
+use Rattle.kept_tree.proofs.Fill.{free-entry, live-some}
 use Rattle.tree.specs.Entries.{freeEntry, unknownKind, replacing, sameObject}
 use Rattle.tree.specs.Create.{createShape, createVerdict, createLater, treeCreateChecks, treeCreated, removeShape, removeChecks}
 use Rattle.tree.specs.Link.{linkShape, linkVerdict, linkLater, linkChecks, linked}
@@ -85,14 +85,6 @@ right-lifted N c q h = subst (λ (o : NamedOutcome). Right (o .left)) (sym (lift
 right-way : (N : Named) (W : Way N) → namedSound N ≡ true → (Made N W → namesSound (W .left .entries) (W .names) ≡ true) → Right (wayNamed N W .left)
 right-way N W h f = way-cases N W (λ o. Right (o .left)) (λ s. names-sound N h) (λ s b. names-sound N h) (λ s b z. names-sound N h)
     (λ s b z. f (record { is-sound = s; passed = b; none = z }))
-
-free-entry : (es : List ℕ) → freeEntry es < maxEntries → live es (freeEntry es) ≡ false
-unfolding freeEntry
-free-entry es h = not-true _ (first-passes (λ e. not (live es e)) maxEntries h)
-
-live-some : (es : List ℕ) (e : ℕ) → live es e ≡ true → kind es e ≡ 0 → ⊥
-unfolding live
-live-some es e l = eqb-false (kind es e) 0 (not-true (eqb (kind es e) 0) l)
 
 same-of : (es : List ℕ) (s x : ℕ) → s ≡ x → sameObject es s x ≡ true
 unfolding sameObject

@@ -44,24 +44,24 @@ use Rattle.theorems.proofs.Named.{Shape, plain, judged, shape}
 use Rattle.starred.specs.Starred.{Case, cases, given, Starred}
 
 -- what a call answers and leaves, with no test of soundness
-unfoldable bare : (T : Tables) (c : Call) → Shape T c → Outcome
-bare T c (plain done n d same a x) = answer T (refusalsOf T c) done
-bare T c (judged done n d same dead a x) = naming (verdictOn T c .denied) (verdictOn T c .crossed) (domainOf T (caller c)) (answer T (refusalsOf T c) done)
+unfoldable pub bare : (T : Tables) (c : Call) → Shape T c → Outcome
+bare T c (plain done n d same a x in-asked) = answer T (refusalsOf T c) done
+bare T c (judged done n d same dead a x in-asked) = naming (verdictOn T c .denied) (verdictOn T c .crossed) (domainOf T (caller c)) (answer T (refusalsOf T c) done)
 
-unfoldable played : Tables → Call → Outcome
+unfoldable pub played : Tables → Call → Outcome
 played T c = bare T c (shape T c)
 
 -- sound tables pass the test
 past : (T : Tables) (cs : List Check) (done : Outcome) → sound T ≡ true → call T cs done ≡ answer T cs done
 past T cs done h = sym (call-passes T cs done (sym h) refl refl)
 
-same : (T : Tables) (c : Call) → sound T ≡ true → outcomeOf T c ≡ played T c
+pub same : (T : Tables) (c : Call) → sound T ≡ true → outcomeOf T c ≡ played T c
 unfolding played bare
 same T c h = by-shape (shape T c)
   where
     by-shape : (s : Shape T c) → outcomeOf T c ≡ bare T c s
-    by-shape (plain done n d e a x) = e ∙ past T (refusalsOf T c) done h
-    by-shape (judged done n d e dead a x) = e ∙ ap (λ (o : Outcome). naming (verdictOn T c .denied) (verdictOn T c .crossed) (domainOf T (caller c)) o) (past T (refusalsOf T c) done h)
+    by-shape (plain done n d e a x in-asked) = e ∙ past T (refusalsOf T c) done h
+    by-shape (judged done n d e dead a x in-asked) = e ∙ ap (λ (o : Outcome). naming (verdictOn T c .denied) (verdictOn T c .crossed) (domainOf T (caller c)) o) (past T (refusalsOf T c) done h)
 
 -- a list of calls played
 unfoldable playedAll : Tables → List Call → Tables

@@ -14,25 +14,22 @@ use Rattle.access.specs.Kinds.{kindOf}
 use Rattle.access.specs.Limits.{maxLevel, maxEntries}
 use Rattle.access.specs.declared.errno.Reply.{Reply}
 use Rattle.access.specs.declared.errno.Reply.the-variants.{Done}
-use Rattle.tables.specs.Tables.{Tables, entryWidth, object, live, isDir, pastFileSet, pathRule, threadLive}
+use Rattle.tables.specs.Tables.{entryWidth, live, isDir, pastFileSet, threadLive}
 use Rattle.tables.specs.Layers.{handlesAny, rulesetAt, isOpen, layerAt, layerInUse}
-use Rattle.tables.specs.Outcome.{Outcome, outcome, answer, blame, named, naming}
+use Rattle.tables.specs.Outcome.{Outcome, answer, blame, named, naming}
 use Rattle.tables.specs.Fresh.{freshTables}
 use Rattle.sound_rules.specs.Rules.{masksKnown}
-use Rattle.sound.specs.Sound.{sound}
-use Rattle.sound.specs.Call.{call}
-use Rattle.sound.proofs.Calls.{call-passes}
 use Rattle.sound.proofs.Facts.{facts}
 use Rattle.judge.specs.Rules.{isRule, rulePlace, rightsOn}
 use Rattle.judge.specs.Judge.{grants, granted, handled, denied, missing}
 use Rattle.judge.specs.Domain.{chain, domain, layerLacks, lacks}
 use Rattle.judge.specs.Blame.{namingEntry}
 use Rattle.ruleset.specs.Attribute.{number, knownSize, strayByte, stray}
-use Rattle.ruleset.specs.Create.{freeRuleset, createForm, createMasks, createChecks, opened, createDone, created}
-use Rattle.rule.specs.Rule.{addForm, isFull, sweeping, pathForm, addPathChecks, appended, added, addDone, pathAdded}
-use Rattle.domain_restrict.specs.Restrict.{unmarked, restrictForm, isDeep, noRoom, restrictRoom, restrictChecks, freeLayer, layerRow, counted, restricted, restrictDone, restrictCall}
-use Rattle.domain.specs.Threads.{markChecks, markDone, privsSet}
-use Rattle.fs_access.specs.Access.{accessNames, accessMask, accessChecks, accessCall}
+use Rattle.ruleset.specs.Create.{freeRuleset, createForm, createMasks, createChecks, opened, createDone}
+use Rattle.rule.specs.Rule.{addForm, isFull, sweeping, pathForm, addPathChecks, appended, added, addDone}
+use Rattle.domain_restrict.specs.Restrict.{unmarked, restrictForm, isDeep, noRoom, restrictRoom, restrictChecks, freeLayer, layerRow, counted, restricted, restrictDone}
+use Rattle.domain.specs.Threads.{markChecks, markDone}
+use Rattle.fs_access.specs.Access.{accessNames, accessMask, accessChecks}
 use Rattle.fs.specs.Needs.{makeOf, sourceNeeds, targetNeeds}
 use Rattle.fs.specs.Move.{entryRights, deniedNeeds, deniedRefer, uncontained, escaping, crossing, layerDenies, layerCrosses, verdict}
 use Rattle.fs.specs.Blame.{crossed, namingMove}
@@ -42,7 +39,8 @@ use Rattle.tree.specs.Moves.{needsFrom, needsTo, moveOf, linkMove, renameMove}
 use Rattle.tree.specs.Create.{createVerdict, createLater, treeCreated}
 use Rattle.tree.specs.Link.{linkVerdict, linkLater, linked}
 use Rattle.tree.specs.Rename.{renameVerdict, renameLater, dropped, moved}
-use Rattle.theorems.specs.Calls.{Call, create-ruleset, close-ruleset, add-path-rule, add-port-rule, restrict, layer-rules, clone, end-thread, set-no-new-privs, set-admin, access, port, task, outcomeOf}
+use Rattle.theorems.specs.Calls.{outcomeOf}
+use Rattle.theorems.proofs.Named.{shape}
 use Rattle.names.specs.Names.{sameBytes, badBytes, nameChecks, rowAt, nameOf, putName, dropName}
 use Rattle.named.specs.Named.{Named, withNames, namedSound, NamedOutcome, namedOutcome, namedAnswer, namedCall, judgedBy, noNames, freshNamed}
 use Rattle.named.specs.Tree.{createTarget, newName, createBefore, newNames, createNamedChecks, createNamed, linkTarget, linkBefore, linkNamedChecks, linkNamed, replacedBy, renameBefore, renameNamedChecks, renamedNames, renameNamed}
@@ -50,29 +48,9 @@ use Rattle.named.specs.Calls.{NamedCall, lifted, create, remove, link, rename, 
 use Rattle.named.proofs.Made.{core-sound, names-sound, lift-goes}
 use Rattle.named.proofs.Kept.{kept}
 use Rattle.named.proofs.Fresh.{fresh-sound-named, never-unsound}
+use Rattle.starred.proofs.Proved.{bare, played as bare-played, same as same-bare}
 use Rattle.starred_named.proofs.Scan.{scan, takenFast, bearerFast, taken-fast, bearer-fast}
 use Rattle.starred_named.specs.Starred.{Case, cases, given, Starred}
-
--- what a call answers and leaves, with no test of soundness; a call that stands in no case is as it was
-unfoldable bare : Tables → Call → Outcome
-bare T (create-ruleset bs flags) = answer T (createChecks T bs flags) (createDone T bs)
-bare T (add-path-rule r e rights flags) = answer T (addPathChecks T r e rights flags) (addDone T r pathRule (object (T .entries) e) rights)
-bare T (restrict t r flags) = answer T (restrictChecks T t r flags) (restrictDone T t r)
-bare T (set-no-new-privs t) = answer T (markChecks T t) (markDone T t 2 1)
-bare T (access t e m) = namingEntry T t e m (answer T (accessChecks T t e m) (outcome (Done 0) T))
-bare T (close-ruleset r) = outcomeOf T (close-ruleset r)
-bare T (add-port-rule r p rights flags) = outcomeOf T (add-port-rule r p rights flags)
-bare T (layer-rules l) = outcomeOf T (layer-rules l)
-bare T (clone t) = outcomeOf T (clone t)
-bare T (end-thread t) = outcomeOf T (end-thread t)
-bare T (set-admin t on) = outcomeOf T (set-admin t on)
-bare T (port t p m) = outcomeOf T (port t p m)
-bare T (task t u s) = outcomeOf T (task t u s)
-bare T (Call.create t d k) = outcomeOf T (Call.create t d k)
-bare T (Call.remove t e) = outcomeOf T (Call.remove t e)
-bare T (Call.link t s d) = outcomeOf T (Call.link t s d)
-bare T (Call.rename t s d x) = outcomeOf T (Call.rename t s d x)
-bare T (Call.exchange t s d x) = outcomeOf T (Call.exchange t s d x)
 
 -- the checks, with the bearer of the name looked for in one pass
 unfoldable newFast : Named → ℕ → List ℕ → List Check
@@ -90,8 +68,9 @@ unfoldable renameFast : Named → ℕ → ℕ → ℕ → List ℕ → Replaced 
 renameFast N t s d n x =
     renameBefore (N .core) t s d n ++ ((isAbove (N .core .entries) s d ⇒ EINVAL ∷ []) ++ (renameVerdict (N .core) t s d x ++ renameLater (N .core .entries) s x))
 
+-- what a call answers and leaves, with no test of soundness; a call of the tree that stands in no case is as it was
 unfoldable played : Named → NamedCall → NamedOutcome
-played N (lifted c q) = let o = bare (N .core) c in namedOutcome (o .reply) (withNames (o .left) (N .names))
+played N (lifted c q) = let o = bare-played (N .core) c in namedOutcome (o .reply) (withNames (o .left) (N .names))
 played N (create t d k n) =
     judgedBy (namingEntry (N .core) t d (makeOf (kindOf k)))
     (namedAnswer N (createFast N t d k n)
@@ -112,30 +91,6 @@ played N (turn Q) = outcomeNamed N (turn Q)
 played N (batch rs ns xs) = outcomeNamed N (batch rs ns xs)
 
 -- ---- sound tables pass the tests
-past : (T : Tables) (cs : List Check) (done : Outcome) → sound T ≡ true → call T cs done ≡ answer T cs done
-past T cs done h = sym (call-passes T cs done (sym h) refl refl)
-
-same-bare : (T : Tables) (c : Call) → sound T ≡ true → outcomeOf T c ≡ bare T c
-unfolding bare outcomeOf created pathAdded restrictCall privsSet accessCall
-same-bare T (create-ruleset bs flags) h = past T _ _ h
-same-bare T (add-path-rule r e rights flags) h = past T _ _ h
-same-bare T (restrict t r flags) h = past T _ _ h
-same-bare T (set-no-new-privs t) h = past T _ _ h
-same-bare T (access t e m) h = ap (namingEntry T t e m) (past T _ _ h)
-same-bare T (close-ruleset r) h = refl
-same-bare T (add-port-rule r p rights flags) h = refl
-same-bare T (layer-rules l) h = refl
-same-bare T (clone t) h = refl
-same-bare T (end-thread t) h = refl
-same-bare T (set-admin t on) h = refl
-same-bare T (port t p m) h = refl
-same-bare T (task t u s) h = refl
-same-bare T (Call.create t d k) h = refl
-same-bare T (Call.remove t e) h = refl
-same-bare T (Call.link t s d) h = refl
-same-bare T (Call.rename t s d x) h = refl
-same-bare T (Call.exchange t s d x) h = refl
-
 past-named : (a b : ℕ → ℕ) (D : List ℕ) (N : Named) (cs : List Check) (done : NamedOutcome) → namedSound N ≡ true
     → judgedBy (naming a b D) (namedCall N cs done) ≡ judgedBy (naming a b D) (namedAnswer N cs done)
 unfolding namedCall namedAnswer first
@@ -192,7 +147,7 @@ unfolding anyBelow allOf firstFrom firstBelow any first copied
     createVerdict createLater treeCreated linkVerdict linkLater linked renameVerdict renameLater dropped moved
     elem sameBytes badBytes nameChecks rowAt nameOf putName dropName scan takenFast bearerFast
     namedAnswer noNames freshNamed createTarget linkTarget newNames renameBefore renamedNames newFast createFast linkFast renameFast
-    bare played playedAll playedReply
+    shape bare bare-played played playedAll playedReply
 played-cases = refl
 
 -- the theorem: every case's last call answers what document 01 says

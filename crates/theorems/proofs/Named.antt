@@ -26,7 +26,7 @@ use Rattle.sound.specs.Sound.{sound}
 use Rattle.sound.specs.Call.{call}
 use Rattle.sound.proofs.Facts.{facts}
 use Rattle.judge.specs.Domain.{lacks, layerLacks, portLacks, layerPortLacks}
-use Rattle.judge.specs.Blame.{none}
+use Rattle.judge.specs.Blame.{none, deniedAt}
 use Rattle.judge.specs.Rules.{rightsOn}
 use Rattle.judge.specs.Judge.{denied, missing, portMissing}
 use Rattle.judge.proofs.Laws.{has-missing, has-port-missing}
@@ -142,24 +142,19 @@ module _ (T : Tables) (cs : List Check) (done : Outcome) (n : ℕ) (dn : done .r
     abbrev Told : Errno → ℕ → Rights → Type 0
     Told e l s = ((e .0 ≡ EACCES) × Youngest a D l (s .0)) ⊎ ((e .0 ≡ EXDEV) × Youngest b D l (s .0))
 
-    blamed : (v : ℕ) {e : Errno} {l : ℕ} {s : Rights} → cond (eqb v EACCES) (blame EACCES a D) (cond (eqb v EXDEV) (blame EXDEV b D) (no v)) ≡ Denied e l s → Told e l s
+    blamed : (v : ℕ) {e : Errno} {l : ℕ} {s : Rights} → cond (eqb v EACCES) (blame EACCES a D) (cond (eqb v EXDEV) (blame EXDEV b D) (no v)) ≡ Denied e l s → ((v ≡ EACCES) ⊎ (v ≡ EXDEV)) × Told e l s
     blamed v {e} {l} {s} k = split (eqb v EACCES)
-        (λ q. let p : blame EACCES a D ≡ Denied e l s = rw q at k in inl (sym (ap errorOf p) ∙ blame-error EACCES a D, blame-youngest EACCES a D p))
+        (λ q. let p : blame EACCES a D ≡ Denied e l s = rw q at k in (inl (eqb-true v EACCES q), inl (sym (ap errorOf p) ∙ blame-error EACCES a D, blame-youngest EACCES a D p)))
         (λ q. split (eqb v EXDEV)
-        (λ w. let p : blame EXDEV b D ≡ Denied e l s = rw (q, w) at k in inr (sym (ap errorOf p) ∙ blame-error EXDEV b D, blame-youngest EXDEV b D p))
+        (λ w. let p : blame EXDEV b D ≡ Denied e l s = rw (q, w) at k in (inr (eqb-true v EXDEV w), inr (sym (ap errorOf p) ∙ blame-error EXDEV b D, blame-youngest EXDEV b D p)))
         (λ w. let p : no v ≡ Denied e l s = rw (q, w) at k in absurd (let z : _≡_ {A = ℕ} 0 1 = cc in omega arith)))
 
     named-denied : {e : Errno} {l : ℕ} {s : Rights} → named a b D r ≡ Denied e l s → (sound T ≡ true) × ((first cs ≡ EACCES) ⊎ (first cs ≡ EXDEV)) × Told e l s
     unfolding named
     named-denied {e} {l} {s} = cases (λ x. named a b D x ≡ Denied e l s → (sound T ≡ true) × ((first cs ≡ EACCES) ⊎ (first cs ≡ EXDEV)) × Told e l s)
         (λ h k. absurd (let z : _≡_ {A = ℕ} 0 1 = cc in omega arith))
-        (λ h m k. (h, verdict-number k, blamed (first cs) k))
+        (λ h m k. let b = blamed (first cs) k in (h, b .0, b .1))
         (λ h m k. absurd (let z : _≡_ {A = ℕ} 0 1 = cc in omega arith))
-      where
-        verdict-number : cond (eqb (first cs) EACCES) (blame EACCES a D) (cond (eqb (first cs) EXDEV) (blame EXDEV b D) (no (first cs))) ≡ Denied e l s → (first cs ≡ EACCES) ⊎ (first cs ≡ EXDEV)
-        verdict-number k = split (eqb (first cs) EACCES) (λ q. inl (eqb-true (first cs) EACCES q))
-            (λ q. split (eqb (first cs) EXDEV) (λ w. inr (eqb-true (first cs) EXDEV w))
-            (λ w. let p : no (first cs) ≡ Denied e l s = rw (q, w) at k in absurd (let z : _≡_ {A = ℕ} 0 1 = cc in omega arith)))
 
     -- the verdict's numbers come from layers with a set
     module _ (na : any (some a) D ≡ false → Lacks EACCES cs) (nb : any (some b) D ≡ false → Lacks EXDEV cs) where
@@ -191,66 +186,6 @@ module _ (T : Tables) (cs : List Check) (done : Outcome) (n : ℕ) (dn : done .r
           let p = named-denied k in
           reached-in-use T (facts T (p .0)) l (t, verdict-live (p .1), told-in (p .2)) .0
 
--- ---- every call
-pub data Shape (T : Tables) (c : Call) : Type 0 where
-  -- without a verdict, and so without its numbers
-  plain : (done : Outcome) (n : ℕ) → done .reply ≡ Done n → outcomeOf T c ≡ call T (refusalsOf T c) done → Lacks EACCES (refusalsOf T c) → Lacks EXDEV (refusalsOf T c) → Shape T c
-  -- with a verdict on a thread that is live, whose numbers come from layers with a set
-  judged : (done : Outcome) (n : ℕ) → done .reply ≡ Done n → outcomeOf T c ≡ naming (verdictOn T c .denied) (verdictOn T c .crossed) (domainOf T (caller c)) (call T (refusalsOf T c) done)
-      → (threadLive (T .threads) (caller c) ≡ false → first (refusalsOf T c) ≡ ESRCH) → (any (some (verdictOn T c .denied)) (domainOf T (caller c)) ≡ false → Lacks EACCES (refusalsOf T c))
-      → (any (some (verdictOn T c .crossed)) (domainOf T (caller c)) ≡ false → Lacks EXDEV (refusalsOf T c)) → Shape T c
-
-unfoldable pub shape : (T : Tables) (c : Call) → Shape T c
-unfolding outcomeOf created createDone closed closeDone pathAdded portAdded addDone restrictCall restrictDone cloned cloneDone endCall endDone privsSet adminSet markDone layerRead accessCall portCall taskCall treeCreate treeRemove treeLink treeRename treeExchange
-    first refusalsOf verdictOn caller createChecks createForm createMasks closeChecks addPathChecks addPortChecks addForm pathForm rulePortForm restrictChecks restrictForm restrictRoom layerChecks cloneChecks endChecks markChecks taskChecks
-    accessChecks accessNames accessMask lacks layerLacks portChecks portForm portLacks layerPortLacks
-    treeCreateChecks createShape createVerdict createLater removeChecks removeShape removeVerdict removeLater
-    linkChecks linkShape linkVerdict linkLater renameChecks renameNames renameShape renameVerdict renameLater exchangeChecks exchangeNames exchangeShape exchangeVerdict verdict layerDenies
-shape T (create-ruleset bs flags) = plain _ _ refl refl tt tt
-shape T (close-ruleset r) = plain _ _ refl refl tt tt
-shape T (add-path-rule r e rights flags) = plain _ _ refl refl tt tt
-shape T (add-port-rule r p rights flags) = plain _ _ refl refl tt tt
-shape T (restrict t r flags) = plain _ _ refl refl tt tt
-shape T (layer-rules l) = plain _ _ refl refl tt tt
-shape T (clone t) = plain _ _ refl refl tt tt
-shape T (end-thread t) = plain _ _ refl refl tt tt
-shape T (set-no-new-privs t) = plain _ _ refl refl tt tt
-shape T (set-admin t on) = plain _ _ refl refl tt tt
-shape T (access t e m) = judged _ _ refl refl (λ q. rw q refl) (λ q. (q, tt)) (λ q. tt)
-shape T (port t p m) = judged _ _ refl refl (λ q. rw q refl) (λ q. (q, tt)) (λ q. tt)
-shape T (task t u i) = plain _ _ refl refl tt tt
-shape T (create t d k) = judged _ _ refl refl (λ q. rw q refl) (λ q. (q, tt)) (λ q. tt)
-shape T (remove t e) = judged _ _ refl refl (λ q. rw q refl) (λ q. (q, tt)) (λ q. tt)
-shape T (link t s d) = judged _ _ refl refl (λ q. rw q refl) (λ q. (q, tt)) (λ q. (sym (crosses-any T (linkMove (T .entries) s d) (domainOf T t)) ∙ q, tt))
-shape T (rename t s d x) = judged _ _ refl refl (λ q. rw q refl) (λ q. (q, tt)) (λ q. (sym (crosses-any T (renameMove (T .entries) s d x) (domainOf T t)) ∙ q, tt))
-shape T (exchange t s d x) = judged _ _ refl refl (λ q. rw q refl) (λ q. (q, tt)) (λ q. (sym (crosses-any T (exchangeMove (T .entries) s d x) (domainOf T t)) ∙ q, tt))
-
-module _ (T : Tables) (c : Call) where
-  abbrev answered : {o : Outcome} {r : Reply} → outcomeOf T c ≡ o → reply T c ≡ r → o .reply ≡ r
-  answered same h = sym (ap (λ (x : Outcome). x .reply) same) ∙ h
-
-  number : Shape T c → errorOf (reply T c) ≡ first (not (sound T) ⇒ EIO ∷ refusalsOf T c)
-  number (plain done n d same a x) = ap (λ (o : Outcome). errorOf (o .reply)) same ∙ call-number T (refusalsOf T c) done n d
-  number (judged done n d same dead a x) = ap (λ (o : Outcome). errorOf (o .reply)) same ∙ named-number T (refusalsOf T c) done n d (caller c) _ _
-
-  -- a refusal "changes no cell"
-  same-left : Shape T c → isDone (reply T c) ≡ false → after T c ≡ T
-  same-left (plain done n d same a x) h = ap (λ (o : Outcome). o .left) same ∙ call-same T (refusalsOf T c) done n d (sym (ap (λ (o : Outcome). isDone (o .reply)) same) ∙ h)
-  same-left (judged done n d same dead a x) h =
-      ap (λ (o : Outcome). o .left) same ∙ call-same T (refusalsOf T c) done n d (sym (ap (λ (o : Outcome). isDone (o .reply)) same ∙ done-named _ _ _ (call T (refusalsOf T c) done .reply)) ∙ h)
-
-  told : Shape T c → (e : Errno) (l : ℕ) (s : Rights) → reply T c ≡ Denied e l s → ByVerdict T c e l s
-  told (plain done n d same a x) e l s h = plain-denied T (refusalsOf T c) done n d (answered same h)
-  told (judged done n d same dead a x) e l s h =
-      let k = answered same h in
-      record { named = named-denied T (refusalsOf T c) done n d (caller c) _ _ k .2; below = named-below T (refusalsOf T c) done n d (caller c) _ _ dead k }
-
-  others : Shape T c → (e : Errno) → reply T c ≡ Refused e → (e .0 ≡ EACCES → ⊥) × (e .0 ≡ EXDEV → ⊥)
-  others (plain done n d same a x) e h =
-      let k = answered same h in
-      (plain-refused T (refusalsOf T c) done n d EACCES (λ z. omega arith) a (λ z. omega arith) k, plain-refused T (refusalsOf T c) done n d EXDEV (λ z. omega arith) x (λ z. omega arith) k)
-  others (judged done n d same dead a x) e h = named-refused T (refusalsOf T c) done n d (caller c) _ _ a x (answered same h)
-
 -- ---- where the sets lie
 none-within : (m : ℕ) → within 0 m ≡ true
 none-within m = has-within 0 m (λ i h. clash (has 0 i) h (has-none i))
@@ -258,7 +193,7 @@ none-within m = has-within 0 m (λ i h. clash (has 0 i) h (has-none i))
 missing-within : (es : List ℕ) (L : Layer) (e m : ℕ) → within (missing es L e m) m ≡ true
 missing-within es L e m = has-within (missing es L e m) m (λ i h. and-l (has m i) _ (sym (has-missing es L e m i) ∙ h))
 
-port-within : (L : Layer) (p m : ℕ) → within (portMissing L p m) m ≡ true
+pub port-within : (L : Layer) (p m : ℕ) → within (portMissing L p m) m ≡ true
 port-within L p m = has-within (portMissing L p m) m (λ i h. and-l (has m i) _ (sym (has-port-missing L p m i) ∙ h))
 
 -- of two sets joined, each in its part of a join
@@ -296,42 +231,88 @@ module _ (es : List ℕ) (L : Layer) (m : Move) where
       (λ z. inr (rw (q, z) (join-within _ _ (m .rights .0) (m .back .0) (uncontained-within (m .source) (m .target) (m .object) (m .rights .0)) (uncontained-within (m .target) (m .source) (m .other) (m .back .0)))))
       (λ z. inl (rw (q, z) refl)))
 
-move-lies : (T : Tables) (m : Move)
+pub move-lies : (T : Tables) (m : Move)
     → Lies (record { denied = deniedMove T m; crossed = crossedMove T m; asked = without (join (m .leave .0) (m .enter .0)) REFER; moved = join (m .rights .0) (m .back .0) })
 move-lies T m = record {
   denied = λ l. needs-within (T .entries) (layerAt (T .layers) (T .pool) l) m;
   crossed = λ l. crossed-within (T .entries) (layerAt (T .layers) (T .pool) l) m;
 }
 
-nothing-lies : {a : ℕ} → Lies (record { denied = none; crossed = none; asked = a; moved = 0 })
+pub nothing-lies : {a : ℕ} → Lies (record { denied = none; crossed = none; asked = a; moved = 0 })
 nothing-lies {a} = record { denied = λ l. none-within a; crossed = λ l. inr (none-within 0) }
 
-lies-at : (f : ℕ → ℕ) (m : ℕ) → ((l : ℕ) → within (f l) m ≡ true) → Lies (record { denied = f; crossed = none; asked = m; moved = 0 })
+pub lies-at : (f : ℕ → ℕ) (m : ℕ) → ((l : ℕ) → within (f l) m ≡ true) → Lies (record { denied = f; crossed = none; asked = m; moved = 0 })
 lies-at f m h = record { denied = h; crossed = λ l. inr (none-within 0) }
 
-lies : (T : Tables) (c : Call) → Lies (verdictOn T c)
-unfolding verdictOn
-lies T (create-ruleset bs flags) = nothing-lies
-lies T (close-ruleset r) = nothing-lies
-lies T (add-path-rule r x rights flags) = nothing-lies
-lies T (add-port-rule r p rights flags) = nothing-lies
-lies T (restrict t r flags) = nothing-lies
-lies T (layer-rules k) = nothing-lies
-lies T (clone t) = nothing-lies
-lies T (end-thread t) = nothing-lies
-lies T (set-no-new-privs t) = nothing-lies
-lies T (set-admin t on) = nothing-lies
-lies T (access t e m) = lies-at _ m (λ l. missing-within (T .entries) (layerAt (T .layers) (T .pool) l) e m)
-lies T (port t p m) = lies-at _ m (λ l. port-within (layerAt (T .layers) (T .pool) l) p m)
-lies T (task t u i) = nothing-lies
-lies T (create t d k) = lies-at _ (makeOf (kindOf k)) (λ l. missing-within (T .entries) (layerAt (T .layers) (T .pool) l) d (makeOf (kindOf k)))
-lies T (remove t e) = let m = removeOf (kindOf (kind (T .entries) e)) in lies-at _ m (λ l. missing-within (T .entries) (layerAt (T .layers) (T .pool) l) (parent (T .entries) e) m)
-lies T (link t s d) = move-lies T (linkMove (T .entries) s d)
-lies T (rename t s d x) = move-lies T (renameMove (T .entries) s d x)
-lies T (exchange t s d x) = move-lies T (exchangeMove (T .entries) s d x)
+pub entry-lies : (T : Tables) (e m : ℕ) → Lies (record { denied = deniedAt T e m; crossed = none; asked = m; moved = 0 })
+entry-lies T e m = lies-at _ m (λ l. missing-within (T .entries) (layerAt (T .layers) (T .pool) l) e m)
+
+-- ---- every call
+pub data Shape (T : Tables) (c : Call) : Type 0 where
+  -- without a verdict, and so without its numbers
+  plain : (done : Outcome) (n : ℕ) → done .reply ≡ Done n → outcomeOf T c ≡ call T (refusalsOf T c) done → Lacks EACCES (refusalsOf T c) → Lacks EXDEV (refusalsOf T c) → Lies (verdictOn T c) → Shape T c
+  -- with a verdict on a thread that is live, whose numbers come from layers with a set
+  judged : (done : Outcome) (n : ℕ) → done .reply ≡ Done n → outcomeOf T c ≡ naming (verdictOn T c .denied) (verdictOn T c .crossed) (domainOf T (caller c)) (call T (refusalsOf T c) done)
+      → (threadLive (T .threads) (caller c) ≡ false → first (refusalsOf T c) ≡ ESRCH) → (any (some (verdictOn T c .denied)) (domainOf T (caller c)) ≡ false → Lacks EACCES (refusalsOf T c))
+      → (any (some (verdictOn T c .crossed)) (domainOf T (caller c)) ≡ false → Lacks EXDEV (refusalsOf T c)) → Lies (verdictOn T c) → Shape T c
+
+unfoldable pub shape : (T : Tables) (c : Call) → Shape T c
+unfolding outcomeOf created createDone closed closeDone pathAdded portAdded addDone restrictCall restrictDone cloned cloneDone endCall endDone privsSet adminSet markDone layerRead accessCall portCall taskCall treeCreate treeRemove treeLink treeRename treeExchange
+    first refusalsOf verdictOn caller createChecks createForm createMasks closeChecks addPathChecks addPortChecks addForm pathForm rulePortForm restrictChecks restrictForm restrictRoom layerChecks cloneChecks endChecks markChecks taskChecks
+    accessChecks accessNames accessMask lacks layerLacks portChecks portForm portLacks layerPortLacks
+    treeCreateChecks createShape createVerdict createLater removeChecks removeShape removeVerdict removeLater
+    linkChecks linkShape linkVerdict linkLater renameChecks renameNames renameShape renameVerdict renameLater exchangeChecks exchangeNames exchangeShape exchangeVerdict verdict layerDenies
+shape T (create-ruleset bs flags) = plain _ _ refl refl tt tt nothing-lies
+shape T (close-ruleset r) = plain _ _ refl refl tt tt nothing-lies
+shape T (add-path-rule r e rights flags) = plain _ _ refl refl tt tt nothing-lies
+shape T (add-port-rule r p rights flags) = plain _ _ refl refl tt tt nothing-lies
+shape T (restrict t r flags) = plain _ _ refl refl tt tt nothing-lies
+shape T (layer-rules l) = plain _ _ refl refl tt tt nothing-lies
+shape T (clone t) = plain _ _ refl refl tt tt nothing-lies
+shape T (end-thread t) = plain _ _ refl refl tt tt nothing-lies
+shape T (set-no-new-privs t) = plain _ _ refl refl tt tt nothing-lies
+shape T (set-admin t on) = plain _ _ refl refl tt tt nothing-lies
+shape T (access t e m) = judged _ _ refl refl (λ q. rw q refl) (λ q. (q, tt)) (λ q. tt) (entry-lies T e m)
+shape T (port t p m) = judged _ _ refl refl (λ q. rw q refl) (λ q. (q, tt)) (λ q. tt) (lies-at _ m (λ l. port-within (layerAt (T .layers) (T .pool) l) p m))
+shape T (task t u i) = plain _ _ refl refl tt tt nothing-lies
+shape T (create t d k) = judged _ _ refl refl (λ q. rw q refl) (λ q. (q, tt)) (λ q. tt) (entry-lies T d (makeOf (kindOf k)))
+shape T (remove t e) = judged _ _ refl refl (λ q. rw q refl) (λ q. (q, tt)) (λ q. tt) (entry-lies T (parent (T .entries) e) (removeOf (kindOf (kind (T .entries) e))))
+shape T (link t s d) = judged _ _ refl refl (λ q. rw q refl) (λ q. (q, tt)) (λ q. (sym (crosses-any T (linkMove (T .entries) s d) (domainOf T t)) ∙ q, tt)) (move-lies T (linkMove (T .entries) s d))
+shape T (rename t s d x) = judged _ _ refl refl (λ q. rw q refl) (λ q. (q, tt)) (λ q. (sym (crosses-any T (renameMove (T .entries) s d x) (domainOf T t)) ∙ q, tt)) (move-lies T (renameMove (T .entries) s d x))
+shape T (exchange t s d x) = judged _ _ refl refl (λ q. rw q refl) (λ q. (q, tt)) (λ q. (sym (crosses-any T (exchangeMove (T .entries) s d x) (domainOf T t)) ∙ q, tt)) (move-lies T (exchangeMove (T .entries) s d x))
+
+module _ (T : Tables) (c : Call) where
+  abbrev answered : {o : Outcome} {r : Reply} → outcomeOf T c ≡ o → reply T c ≡ r → o .reply ≡ r
+  answered same h = sym (ap (λ (x : Outcome). x .reply) same) ∙ h
+
+  number : Shape T c → errorOf (reply T c) ≡ first (not (sound T) ⇒ EIO ∷ refusalsOf T c)
+  number (plain done n d same a x in-asked) = ap (λ (o : Outcome). errorOf (o .reply)) same ∙ call-number T (refusalsOf T c) done n d
+  number (judged done n d same dead a x in-asked) = ap (λ (o : Outcome). errorOf (o .reply)) same ∙ named-number T (refusalsOf T c) done n d (caller c) _ _
+
+  -- a refusal "changes no cell"
+  same-left : Shape T c → isDone (reply T c) ≡ false → after T c ≡ T
+  same-left (plain done n d same a x in-asked) h = ap (λ (o : Outcome). o .left) same ∙ call-same T (refusalsOf T c) done n d (sym (ap (λ (o : Outcome). isDone (o .reply)) same) ∙ h)
+  same-left (judged done n d same dead a x in-asked) h =
+      ap (λ (o : Outcome). o .left) same ∙ call-same T (refusalsOf T c) done n d (sym (ap (λ (o : Outcome). isDone (o .reply)) same ∙ done-named _ _ _ (call T (refusalsOf T c) done .reply)) ∙ h)
+
+  told : Shape T c → (e : Errno) (l : ℕ) (s : Rights) → reply T c ≡ Denied e l s → ByVerdict T c e l s
+  told (plain done n d same a x in-asked) e l s h = plain-denied T (refusalsOf T c) done n d (answered same h)
+  told (judged done n d same dead a x in-asked) e l s h =
+      let k = answered same h in
+      record { named = named-denied T (refusalsOf T c) done n d (caller c) _ _ k .2; below = named-below T (refusalsOf T c) done n d (caller c) _ _ dead k }
+
+  others : Shape T c → (e : Errno) → reply T c ≡ Refused e → (e .0 ≡ EACCES → ⊥) × (e .0 ≡ EXDEV → ⊥)
+  others (plain done n d same a x in-asked) e h =
+      let k = answered same h in
+      (plain-refused T (refusalsOf T c) done n d EACCES (λ z. omega arith) a (λ z. omega arith) k, plain-refused T (refusalsOf T c) done n d EXDEV (λ z. omega arith) x (λ z. omega arith) k)
+  others (judged done n d same dead a x in-asked) e h = named-refused T (refusalsOf T c) done n d (caller c) _ _ a x (answered same h)
+
+  lies : Shape T c → Lies (verdictOn T c)
+  lies (plain done n d same a x in-asked) = in-asked
+  lies (judged done n d same dead a x in-asked) = in-asked
 
 pub refused-same : (T : Tables) (c : Call) → isDone (reply T c) ≡ false → after T c ≡ T
 refused-same T c = same-left T c (shape T c)
 
 pub layer-named : LayerNamed
-layer-named = record { number = λ T c. number T c (shape T c); denied = λ T c. told T c (shape T c); others = λ T c. others T c (shape T c); lies = lies }
+layer-named = record { number = λ T c. number T c (shape T c); denied = λ T c. told T c (shape T c); others = λ T c. others T c (shape T c); lies = λ T c. lies T c (shape T c) }
