@@ -1,14 +1,12 @@
 -- How many entries an access reads, by what refuses it. Assumes nothing.
-use mathlib.Core.Path.{_≡_, refl, sym, _∙_}
+use mathlib.Core.Path.{_≡_, refl}
 use mathlib.Core.List.{_++_}
 use Prim.Native.Nat.{ℕ}
-use lib.Dec.{eqb}
 use borrow.Author.Tests.{ne-eqb}
 use Rattle.laws.specs.Refusals.{first}
 use Rattle.laws.proofs.Refusals.{join-stop, join-go}
 use Rattle.tables.specs.Tables.{Tables}
 use Rattle.access.specs.declared.rights.Rights.{Rights}
-use Rattle.judge.specs.Domain.{domain}
 use Rattle.judge.specs.Read.{entriesRead}
 use Rattle.verdict.specs.declared.Question.the-variants.{Entry}
 use Rattle.verdict.specs.Denial.{readBy, threadReads}

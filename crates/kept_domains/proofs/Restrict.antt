@@ -2,7 +2,7 @@
 use mathlib.Core.Path.{_≡_, refl, sym, _∙_}
 use mathlib.Core.Bool.{true, false, not, _||_}
 use mathlib.Core.List.{List}
-use Prim.Native.Nat.{ℕ, suc, _+_, _-_, _≤_, _<_}
+use Prim.Native.Nat.{ℕ, suc, _+_, _-_, _*_, _≤_, _<_}
 use native.Mathlib.Numerals.{add-one, sub-one}
 use native.Mathlib.Omega.{arith}
 use lib.Dec.{eqb, ltb, leb}
@@ -18,7 +18,7 @@ use Rattle.laws.specs.Sums.{sumBelow, bit, tally}
 use Rattle.laws.proofs.Sums.{bit-yes, bit-no, tally-room}
 use Rattle.laws.proofs.Tests.{first-passes}
 use Rattle.access.specs.Limits.{maxLayers, maxPool, maxThreads, maxDomain}
-use Rattle.tables.specs.Tables.{Tables, systemWidth, layerWidth, threadWidth, level, counter, layersUsed, poolUsed, youngest, threadLive}
+use Rattle.tables.specs.Tables.{Tables, tables, systemWidth, layerWidth, ruleWidth, threadWidth, level, counter, layersUsed, poolUsed, youngest, threadLive}
 use Rattle.tables.specs.Layers.{rulesetCount, isOpen, layerParent, layerCount, layerHolders, layerInUse}
 use Rattle.judge.specs.Domain.{domain}
 use Rattle.sound_domains.specs.Domains.{chainEnds, holders}
@@ -27,7 +27,8 @@ use Rattle.sound_domains.proofs.Facts.{LiveThread, Threads}
 use Rattle.sound_domains.proofs.Hierarchy.{Hierarchy, no-due, no-thread, no-layer}
 use Rattle.sound_domains.proofs.Holders.{holders-thread, holders-layer}
 use Rattle.sound.specs.Sound.{sound}
-use Rattle.sound.proofs.Facts.{Sound, facts, sound-of}
+use Rattle.sound_layers.proofs.Facts.{Layers}
+use Rattle.sound.proofs.Facts.{Owing, Sound, facts, sound-of}
 use Rattle.domain_restrict.specs.Restrict.{restrictForm, isDeep, noRoom, restrictRoom, restrictChecks, freeLayer, counted, restricted, restrictDone, restrictCall}
 use Rattle.domain_restrict.proofs.Room.{roomy}
 use Rattle.sound.proofs.Calls.{kept-call}
@@ -36,7 +37,7 @@ use Rattle.kept_domains.proofs.Rows.{HasRow, has-row, row-beside}
 use Rattle.kept_domains.proofs.Threads.{live-below, threads-changed}
 use Rattle.kept_domains.proofs.Chains.{chain-short, ends-around}
 use Rattle.kept_domains.proofs.Counts.{unused-none}
-use Rattle.kept_domains.proofs.Layers.{newLayers, new-length, new-other, new-parent, new-held, pool-length, layers-new}
+use Rattle.kept_domains.proofs.Layers.{newLayers, new-length, new-other, new-parent, new-held, newPool, pool-length, layers-new}
 
 -- ---- what the checks tell
 pub record Allowed (T : Tables) (t r : ℕ) : Type 0 where
@@ -72,7 +73,7 @@ module _ (sys : List ℕ) (a b : ℕ) where
   abbrev both : List ℕ
   both = set (set sys 2 a) 3 b
 
-  pub both-length : length both ≡ length sys
+  both-length : length both ≡ length sys
   both-length = simp (length-set)
 
   -- the level and the next object number
@@ -80,11 +81,32 @@ module _ (sys : List ℕ) (a b : ℕ) where
   both-other k h = getD-set-other (set sys 2 a) 3 k b 0 (λ e. omega arith) ∙ getD-set-other sys 2 k a 0 (λ e. omega arith)
 
   module _ (w : length sys ≡ systemWidth) where
-    pub both-layers : layersUsed both ≡ a
+    both-layers : layersUsed both ≡ a
     both-layers = getD-set-other (set sys 2 a) 3 2 b 0 (λ e. omega arith) ∙ getD-set-same sys 2 a 0 (omega arith)
 
-    pub both-pool : poolUsed both ≡ b
+    both-pool : poolUsed both ≡ b
     both-pool = getD-set-same (set sys 2 a) 3 b 0 (rw (length-set) (omega arith))
+
+-- a call that changes layers, pool and threads, and sets both
+pub recounted : (T : Tables) (due due′ a b : ℕ) (ls ps ts : List ℕ) → Owing T due → length ls ≡ layerWidth * maxLayers → length ps ≡ ruleWidth * maxPool → length ts ≡ threadWidth * maxThreads
+    → (level (T .system) ≡ 0 → a ≡ 0) → Threads ls ts maxLayers → Hierarchy ls ts due′ → Layers (T .entries) (counter (T .system)) (level (T .system)) ls ps a b
+    → Owing (tables (set (set (T .system) 2 a) 3 b) (T .entries) (T .rulesets) ls ps ts) due′
+recounted T due due′ a b ls ps ts S wl wp wt none Z H Y =
+    let sys = T .system in
+    let lv = both-other sys a b 0 (omega arith) in
+    let ct = both-other sys a b 1 (omega arith) in
+    let lu = both-layers sys a b (S .lengths .system) in
+    let pu = both-pool sys a b (S .lengths .system) in
+    record {
+      lengths = record { system = both-length sys a b ∙ S .lengths .system; entries = S .lengths .entries; rulesets = S .lengths .rulesets; layers = wl; pool = wp; threads = wt };
+      system = record { level-known = rw lv (S .system .level-known); counter-low = rw ct (S .system .counter-low); counter-high = rw ct (S .system .counter-high) };
+      level-zero = record { no-layer = λ z. lu ∙ none (sym lv ∙ z); no-ruleset = λ z. S .level-zero .no-ruleset (sym lv ∙ z) };
+      threads = Z;
+      hierarchy = H;
+      tree = rw ct (S .tree);
+      rulesets = rw (ct, lv) (S .rulesets);
+      layers = rw (ct, lv, lu, pu) Y;
+    }
 
 -- ---- the tables after it
 module _ (T : Tables) (t r : ℕ) (S : Sound T) (A : Allowed T t r) where
@@ -204,39 +226,12 @@ module _ (T : Tables) (t r : ℕ) (S : Sound T) (A : Allowed T t r) where
   restrict-sound : Sound (restricted T t r)
   unfolding restricted counted
   restrict-sound =
-      let a = layersUsed sys + 1 in
-      let b = poolUsed sys + rulesetCount rs r in
-      let lv = both-other sys a b 0 (omega arith) in
-      let ct = both-other sys a b 1 (omega arith) in
-      let lu = both-layers sys a b (S .lengths .system) in
-      let pu = both-pool sys a b (S .lengths .system) in
       let low = open-small rs r (S .lengths .rulesets) (A .opens) in
-      record {
-        lengths = record {
-          system = both-length sys a b ∙ S .lengths .system;
-          entries = S .lengths .entries;
-          rulesets = S .lengths .rulesets;
-          layers = new-length ls rs used (poolUsed sys) r y ∙ S .lengths .layers;
-          pool = pool-length (T .pool) rs (poolUsed sys) r ∙ S .lengths .pool;
-          threads = length-putCell ts threadWidth t 1 (used + 1) ∙ S .lengths .threads;
-        };
-        system = record {
-          level-known = rw lv (S .system .level-known);
-          counter-low = rw ct (S .system .counter-low);
-          counter-high = rw ct (S .system .counter-high);
-        };
-        level-zero = record {
-          no-layer = λ z. absurd (A .some-level (sym lv ∙ z));
-          no-ruleset = λ z. absurd (A .some-level (sym lv ∙ z));
-        };
-        threads = threads-new;
-        hierarchy = hierarchy-new;
-        tree = rw ct (S .tree);
-        rulesets = rw (ct, lv) (S .rulesets);
-        layers = rw (ct, lv, lu, pu)
-            (layers-new (T .entries) (counter sys) (level sys) ls (T .pool) rs used (poolUsed sys) r y (layersUsed sys) (S .lengths .layers) (S .lengths .pool) (S .lengths .rulesets)
-            low (A .opens) (S .rulesets .opened r low (A .opens)) record-free record-room (A .space) (S .layers));
-      }
+      recounted T 0 0 (layersUsed sys + 1) (poolUsed sys + rulesetCount rs r) ls′ (newPool (T .pool) rs (poolUsed sys) r) ts′ S
+      (new-length ls rs used (poolUsed sys) r y ∙ S .lengths .layers) (pool-length (T .pool) rs (poolUsed sys) r ∙ S .lengths .pool)
+      (length-putCell ts threadWidth t 1 (used + 1) ∙ S .lengths .threads) (λ z. absurd (A .some-level z)) threads-new hierarchy-new
+      (layers-new (T .entries) (counter sys) (level sys) ls (T .pool) rs used (poolUsed sys) r y (layersUsed sys) (S .lengths .layers) (S .lengths .pool) (S .lengths .rulesets)
+      low (A .opens) (S .rulesets .opened r low (A .opens)) record-free record-room (A .space) (S .layers))
 
 -- ---- the call
 pub kept-restricted : (T : Tables) (t r flags : ℕ) → sound T ≡ true → sound (restrictCall T t r flags .left) ≡ true

@@ -1,6 +1,6 @@
 -- The end of document 02, W13, said as a whole, leaves no cell open: sound tables that answer to it are the same. Assumes nothing.
 use mathlib.Core.Path.{_≡_, refl, sym, ap, _∙_}
-use mathlib.Core.Bool.{true, false}
+use mathlib.Core.Bool.{true}
 use mathlib.Core.List.{List}
 use Prim.Native.Nat.{ℕ, suc, _+_, _-_, _*_, _/_, _%_, _≤_, _<_}
 use native.Mathlib.Nat.{div-lt-iff-lt-mul, div-add-mod', mod-lt, mul-comm}
@@ -43,21 +43,18 @@ module _ (T : Tables) (u : ℕ) (A B : Tables) (a : Ended T u A) (b : Ended T u 
   abbrev lb : List ℕ
   lb = B .layers
 
-  -- a record stays in both or is free in both
-  each : (P : Type 0) (l : ℕ) → (reachedBut T u l ≡ true → P) → (reachedBut T u l ≡ false → P) → P
-  each P l f g = split (reachedBut T u l) f g
-
+  -- of each record: it stays in both or is free in both
   same-parent : (l : ℕ) → l < maxLayers → layerParent la l ≡ layerParent lb l
-  same-parent l h = each _ l (λ q. a .parent l h q ∙ sym (b .parent l h q)) (λ q. a .free l h q 0 (omega arith) ∙ sym (b .free l h q 0 (omega arith)))
+  same-parent l h = split (reachedBut T u l) (λ q. a .parent l h q ∙ sym (b .parent l h q)) (λ q. a .free l h q 0 (omega arith) ∙ sym (b .free l h q 0 (omega arith)))
 
   same-layer : (l : ℕ) → l < maxLayers → reachedBut T u l ≡ true → layerAt la (A .pool) l ≡ layerAt lb (B .pool) l
   same-layer l h q = a .layer l h q ∙ sym (b .layer l h q)
 
   same-first : (l : ℕ) → l < maxLayers → layerFirst la l ≡ layerFirst lb l
-  same-first l h = each _ l (λ q. a .place l h q ∙ sym (b .place l h q)) (λ q. a .free l h q 4 (omega arith) ∙ sym (b .free l h q 4 (omega arith)))
+  same-first l h = split (reachedBut T u l) (λ q. a .place l h q ∙ sym (b .place l h q)) (λ q. a .free l h q 4 (omega arith) ∙ sym (b .free l h q 4 (omega arith)))
 
   same-count : (l : ℕ) → l < maxLayers → layerCount la l ≡ layerCount lb l
-  same-count l h = each _ l (λ q. a .count l h q ∙ sym (b .count l h q)) (λ q. a .free l h q 5 (omega arith) ∙ sym (b .free l h q 5 (omega arith)))
+  same-count l h = split (reachedBut T u l) (λ q. a .count l h q ∙ sym (b .count l h q)) (λ q. a .free l h q 5 (omega arith) ∙ sym (b .free l h q 5 (omega arith)))
 
   same-threads : A .threads ≡ B .threads
   same-threads = a .threads ∙ sym (b .threads)
@@ -71,7 +68,7 @@ module _ (T : Tables) (u : ℕ) (A B : Tables) (a : Ended T u A) (b : Ended T u 
   same-masks l h q = let e = same-layer l h q in (ap (λ (L : Layer). L .fs) e, ap (λ (L : Layer). L .net) e, ap (λ (L : Layer). L .scope) e)
 
   same-cell : (l k : ℕ) → l < maxLayers → k < layerWidth → cell la layerWidth l k ≡ cell lb layerWidth l k
-  same-cell l k h c = each _ l
+  same-cell l k h c = split (reachedBut T u l)
       (λ q.
       let m = same-masks l h q in
       split (eqb k 0) (λ z. rw (eqb-true k 0 z) (same-parent l h))
@@ -88,20 +85,14 @@ module _ (T : Tables) (u : ℕ) (A B : Tables) (a : Ended T u A) (b : Ended T u 
   same-layers : la ≡ lb
   same-layers = rows-ext la lb layerWidth maxLayers (omega arith) (SA .lengths .layers) (SB .lengths .layers) same-cell
 
-  same-used : layersUsed (A .system) ≡ layersUsed (B .system)
-  same-used = a .layers-used ∙ sym (b .layers-used)
-
-  same-taken : poolUsed (A .system) ≡ poolUsed (B .system)
-  same-taken = a .pool-used ∙ sym (b .pool-used)
-
   same-system : A .system ≡ B .system
   same-system = ext-getD 0 (A .system) (B .system) (SA .lengths .system ∙ sym (SB .lengths .system)) (λ i h.
       split (eqb i 0) (λ z. rw (eqb-true i 0 z) (a .level-same ∙ sym (b .level-same)))
       (λ z0. split (eqb i 1) (λ z. rw (eqb-true i 1 z) (a .counter-same ∙ sym (b .counter-same)))
-      (λ z1. split (eqb i 2) (λ z. rw (eqb-true i 2 z) same-used)
+      (λ z1. split (eqb i 2) (λ z. rw (eqb-true i 2 z) (a .layers-used ∙ sym (b .layers-used)))
       (λ z2.
       let e : i ≡ 3 = (let w = SA .lengths .system in let d0 = eqb-false i 0 z0 in let d1 = eqb-false i 1 z1 in let d2 = eqb-false i 2 z2 in omega arith) in
-      rw e same-taken))))
+      rw e (a .pool-used ∙ sym (b .pool-used))))))
 
   -- a rule in the used pool is one of a layer that stays
   same-rule : (l i : ℕ) → l < maxLayers → ruleWidth * layerFirst la l ≤ i → i < ruleWidth * layerFirst la l + ruleWidth * layerCount la l → getD (A .pool) i 0 ≡ getD (B .pool) i 0
@@ -111,7 +102,7 @@ module _ (T : Tables) (u : ℕ) (A B : Tables) (a : Ended T u A) (b : Ended T u 
       let j = i - ruleWidth * layerFirst la l in
       let e : ruleWidth * layerFirst la l + j ≡ i = omega arith in
       let g : ruleWidth * layerFirst lb l + j ≡ i = omega arith in
-      each _ l
+      split (reachedBut T u l)
       (λ q.
       sym (ap (λ (n : ℕ). getD (A .pool) n 0) e) ∙ sym (rule-cell la (A .pool) l j (omega arith)) ∙ ap (λ (L : Layer). getD (L .rules) j 0) (same-layer l h q)
       ∙ rule-cell lb (B .pool) l j (omega arith) ∙ ap (λ (n : ℕ). getD (B .pool) n 0) g)

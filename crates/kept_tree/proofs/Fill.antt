@@ -10,6 +10,7 @@ use lib.Dec.{eqb, ltb}
 use lib.ListN.{length, set, length-set}
 use lib.Seq.{getD-set-same, getD-set-other}
 use borrow.Author.Tests.{eqb-true, eqb-false, ne-eqb, ltb-true, ltb-false, leb-false, not-true, not-false}
+use Rattle.laws.specs.Cells.{cell}
 use Rattle.laws.proofs.Bools.{split, clash, or-l, or-r, not-of-false}
 use Rattle.laws.proofs.Tests.{first-passes}
 use Rattle.laws.proofs.Refusals.{passed}
@@ -45,17 +46,11 @@ module _ (es : List ℕ) (next next′ : ℕ) (Z : Tree es next) (n k d o : ℕ)
   off x a e = clash (live es n) (rw e at a) free
 
   -- the other rows
-  kind-at : (x : ℕ) → (x ≡ n → ⊥) → kind new x ≡ kind es x
-  kind-at x q = put-other es n k d o x 0 q (omega arith)
-
-  parent-at : (x : ℕ) → (x ≡ n → ⊥) → parent new x ≡ parent es x
-  parent-at x q = put-other es n k d o x 1 q (omega arith)
-
-  object-at : (x : ℕ) → (x ≡ n → ⊥) → object new x ≡ object es x
-  object-at x q = put-other es n k d o x 2 q (omega arith)
+  at : (x l : ℕ) → (x ≡ n → ⊥) → l < entryWidth → cell new entryWidth x l ≡ cell es entryWidth x l
+  at = put-other es n k d o
 
   old : (x : ℕ) → (x ≡ n → ⊥) → live new x ≡ true → live es x ≡ true
-  old x q a = sym (live-same es new x (kind-at x q)) ∙ a
+  old x q a = sym (live-same es new x (at x 0 q (omega arith))) ∙ a
 
   -- the new row
   new-kind : (x : ℕ) → x ≡ n → kind new x ≡ k
@@ -74,16 +69,16 @@ module _ (es : List ℕ) (next next′ : ℕ) (Z : Tree es next) (n k d o : ℕ)
   change : Change es new (λ x. false)
   change = record {
     frame = fill-frame es next Z n k d o free (λ x. false) (λ x. refl);
-    settled = λ x a g. inl (parent-at x (off x a));
+    settled = λ x a g. inl (at x 1 (off x a) (omega arith));
     long = length-put es n k d o ∙ Z .long;
-    top = parent-at 0 (off 0 (root-live es next Z)) ∙ Z .root-top;
+    top = at 0 1 (off 0 (root-live es next Z)) (omega arith) ∙ Z .root-top;
     root = refl;
     vacant = λ x l. split (eqb x n)
         (λ q. clash (live new x) (new-live x (eqb-true x n q)) l)
         (λ q.
         let e = eqb-false x n q in
-        let z = Z .free x (sym (live-same es new x (kind-at x e)) ∙ l) in
-        (parent-at x e ∙ z .0, object-at x e ∙ z .1));
+        let z = Z .free x (sym (live-same es new x (at x 0 e (omega arith))) ∙ l) in
+        (at x 1 e (omega arith) ∙ z .0, at x 2 e (omega arith) ∙ z .1));
   }
 
   agreed : (e f : ℕ) → live new e ≡ true → live new f ≡ true → object new e ≡ object new f → (kind new e ≡ kind new f) × (isDir new e ≡ true → e ≡ f)
@@ -92,18 +87,18 @@ module _ (es : List ℕ) (next next′ : ℕ) (Z : Tree es next) (n k d o : ℕ)
       (λ j. let y = eqb-true f n j in (new-kind e x ∙ sym (new-kind f y), λ h. x ∙ sym y))
       (λ j.
       let y = eqb-false f n j in
-      let s = same f (old f y b) (sym (object-at f y) ∙ sym q ∙ new-object e x) in
-      (new-kind e x ∙ sym (s .0) ∙ sym (kind-at f y), λ h. absurd (s .1 (sym (new-kind e x) ∙ is-dir new e h)))))
+      let s = same f (old f y b) (sym (at f 2 y (omega arith)) ∙ sym q ∙ new-object e x) in
+      (new-kind e x ∙ sym (s .0) ∙ sym (at f 0 y (omega arith)), λ h. absurd (s .1 (sym (new-kind e x) ∙ is-dir new e h)))))
       (λ i. let x = eqb-false e n i in split (eqb f n)
       (λ j.
       let y = eqb-true f n j in
-      let s = same e (old e x a) (sym (object-at e x) ∙ q ∙ new-object f y) in
-      (kind-at e x ∙ s .0 ∙ sym (new-kind f y), λ h. absurd (s .1 (sym (s .0) ∙ sym (kind-at e x) ∙ is-dir new e h))))
+      let s = same e (old e x a) (sym (at e 2 x (omega arith)) ∙ q ∙ new-object f y) in
+      (at e 0 x (omega arith) ∙ s .0 ∙ sym (new-kind f y), λ h. absurd (s .1 (sym (s .0) ∙ sym (at e 0 x (omega arith)) ∙ is-dir new e h))))
       (λ j.
       let y = eqb-false f n j in
-      let was : object es e ≡ object es f = sym (object-at e x) ∙ q ∙ object-at f y in (
-        kind-at e x ∙ Z .agreed .kinds-agree e f (old e x a) (old f y b) was ∙ sym (kind-at f y),
-        λ h. Z .agreed .one-dir e f (old e x a) (old f y b) was (sym (dir-same es new e e (kind-at e x)) ∙ h),
+      let was : object es e ≡ object es f = sym (at e 2 x (omega arith)) ∙ q ∙ at f 2 y (omega arith) in (
+        at e 0 x (omega arith) ∙ Z .agreed .kinds-agree e f (old e x a) (old f y b) was ∙ sym (at f 0 y (omega arith)),
+        λ h. Z .agreed .one-dir e f (old e x a) (old f y b) was (sym (dir-same es new e e (at e 0 x (omega arith))) ∙ h),
       )))
 
   pub fill-tree : Tree (putEntry es n k d o) next′
@@ -123,7 +118,7 @@ module _ (es : List ℕ) (next next′ : ℕ) (Z : Tree es next) (n k d o : ℕ)
       let ob = new-object e (eqb-true e n q) in
       let f = share (omega arith) in
       (f .0, f .1, f .2, f .3 ∙ sym ob))
-      (λ q. let x = eqb-false e n q in (e, old e x a, sym (dir-same es new e e (kind-at e x)) ∙ h, sym (object-at e x)))
+      (λ q. let x = eqb-false e n q in (e, old e x a, sym (dir-same es new e e (at e 0 x (omega arith))) ∙ h, sym (at e 2 x (omega arith))))
 
 -- the lowest free entry is free
 pub free-entry : (es : List ℕ) → freeEntry es < maxEntries → live es (freeEntry es) ≡ false

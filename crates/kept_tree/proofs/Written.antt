@@ -6,7 +6,7 @@ use Prim.Native.Nat.{ℕ, _+_, _*_, _≤_, _<_}
 use native.Mathlib.Omega.{arith}
 use lib.Dec.{eqb, ltb}
 use lib.ListN.{length}
-use borrow.Author.Tests.{eqb-true, eq-eqb, ltb-true, ltb-false}
+use borrow.Author.Tests.{eqb-true, eqb-false, ltb-true, ltb-false}
 use Rattle.laws.specs.Cells.{cell, putCell}
 use Rattle.laws.proofs.Bools.{split, clash}
 use Rattle.laws.proofs.Cells.{past, cell-put, cell-put-beside, cell-put-other, length-putCell}
@@ -57,17 +57,17 @@ module _ (es : List ℕ) (e k p o : ℕ) where
 
 -- ---- a parent written
 module _ (es : List ℕ) (e p : ℕ) where
-  pub kind-move : (x : ℕ) → kind (putParent es e p) x ≡ kind es x
+  beside-parent : (x l : ℕ) → (l ≡ 1 → ⊥) → l < entryWidth → cell (putParent es e p) entryWidth x l ≡ cell es entryWidth x l
   unfolding putParent
-  kind-move x = split (eqb x e)
-      (λ q. rw (eqb-true x e q) (cell-put-beside es entryWidth e 1 p 0 (omega arith)))
-      (λ q. cell-put-other es entryWidth e 1 p x 0 (λ z. clash (eqb x e) (eq-eqb x e z) q) (omega arith) (omega arith))
+  beside-parent x l d w = split (eqb x e)
+      (λ q. rw (eqb-true x e q) (cell-put-beside es entryWidth e 1 p l d))
+      (λ q. cell-put-other es entryWidth e 1 p x l (eqb-false x e q) (omega arith) w)
+
+  pub kind-move : (x : ℕ) → kind (putParent es e p) x ≡ kind es x
+  kind-move x = beside-parent x 0 (λ z. omega arith) (omega arith)
 
   pub object-move : (x : ℕ) → object (putParent es e p) x ≡ object es x
-  unfolding putParent
-  object-move x = split (eqb x e)
-      (λ q. rw (eqb-true x e q) (cell-put-beside es entryWidth e 1 p 2 (omega arith)))
-      (λ q. cell-put-other es entryWidth e 1 p x 2 (λ z. clash (eqb x e) (eq-eqb x e z) q) (omega arith) (omega arith))
+  object-move x = beside-parent x 2 (λ z. omega arith) (omega arith)
 
   pub parent-stay : (x : ℕ) → (x ≡ e → ⊥) → parent (putParent es e p) x ≡ parent es x
   unfolding putParent

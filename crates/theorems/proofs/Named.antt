@@ -135,9 +135,6 @@ module _ (T : Tables) (cs : List Check) (done : Outcome) (n : ℕ) (dn : done .r
     abbrev D : List ℕ
     D = domainOf T t
 
-    named-number : errorOf (named a b D r) ≡ first (not (sound T) ⇒ EIO ∷ cs)
-    named-number = error-named a b D r ∙ call-number
-
     -- what a named layer tells
     abbrev Told : Errno → ℕ → Rights → Type 0
     Told e l s = ((e .0 ≡ EACCES) × Youngest a D l (s .0)) ⊎ ((e .0 ≡ EXDEV) × Youngest b D l (s .0))
@@ -287,7 +284,7 @@ module _ (T : Tables) (c : Call) where
 
   number : Shape T c → errorOf (reply T c) ≡ first (not (sound T) ⇒ EIO ∷ refusalsOf T c)
   number (plain done n d same a x in-asked) = ap (λ (o : Outcome). errorOf (o .reply)) same ∙ call-number T (refusalsOf T c) done n d
-  number (judged done n d same dead a x in-asked) = ap (λ (o : Outcome). errorOf (o .reply)) same ∙ named-number T (refusalsOf T c) done n d (caller c) _ _
+  number (judged done n d same dead a x in-asked) = ap (λ (o : Outcome). errorOf (o .reply)) same ∙ error-named _ _ _ _ ∙ call-number T (refusalsOf T c) done n d
 
   -- a refusal "changes no cell"
   same-left : Shape T c → isDone (reply T c) ≡ false → after T c ≡ T

@@ -14,7 +14,6 @@ use Rattle.access.specs.declared.kinds.Kind.the-variants.{Regular, Directory, C
 use Rattle.access.specs.declared.kinds.MaybeKind.{MaybeKind}
 use Rattle.access.specs.declared.kinds.MaybeKind.the-variants.{Known, None}
 use Rattle.tables.specs.Tables.{Tables, kind, live, isDir}
-use Rattle.sound_tree.proofs.Facts.{Tree}
 use Rattle.sound.specs.Sound.{sound}
 use Rattle.sound.proofs.Facts.{facts}
 use Rattle.fs.specs.NeedsTable.{possible}

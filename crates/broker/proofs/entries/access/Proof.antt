@@ -1,6 +1,5 @@
 -- Assumes nothing.
-use mathlib.Core.Path.{_≡_, refl, sym, ap, _∙_}
-use mathlib.Core.Bool.{not}
+use mathlib.Core.Path.{refl, sym, _∙_}
 use borrow.Author.Tests.{not-true, not-false}
 use Rattle.sound.proofs.Calls.{named-unsound, named-passes}
 use Rattle.fs_access.specs.Access.{accessCall, accessCount}
