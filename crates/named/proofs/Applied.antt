@@ -9,13 +9,13 @@ use Rattle.laws.proofs.Bools.{split}
 use Rattle.access.specs.Errno.{ENOENT, E2BIG, EBADMSG}
 use Rattle.access.specs.declared.errno.Reply.{Reply}
 use Rattle.access.specs.declared.errno.Reply.the-variants.{Done, Refused, Denied}
-use Rattle.tables.specs.Tables.{Tables, level}
-use Rattle.theorems.specs.Calls.{Call, create-ruleset, close-ruleset, add-path-rule, add-port-rule, outcomeOf, after, afterAll}
+use Rattle.tables.specs.Tables.{Tables}
+use Rattle.theorems.specs.Calls.{Call, outcomeOf, after, afterAll}
 use Rattle.names.specs.Names.{namesSound}
 use Rattle.policy.specs.Find as files
 use Rattle.policy.specs.declared.Found.{Found}
 use Rattle.policy.specs.declared.Found.the-variants.{At, TooBig, Damaged, Missing}
-use Rattle.policy.specs.Meaning.{Rule, path, port, rulesOf, masksOf}
+use Rattle.policy.specs.Meaning.{Rule, path, port}
 use Rattle.named.specs.Named.{Named, NamedOutcome}
 use Rattle.named.specs.Policy.{lookupNamed, onNamed, addAt, addRule, orClose, addRules, thenAdd, applied, foundNumber, foundChecks, applyNamed}
 use Rattle.named.proofs.Made.{lift-unnamed, lift-goes, named-cases}
@@ -42,40 +42,37 @@ module _ (P : Named → Type 0) (Q : Reply → Type 0)
 
   by-add : (N : Named) (r rights : ℕ) (a : Reply) → P N → Q a → Both (addAt N r rights a)
   unfolding addAt
-  by-add N r rights (Done e) p q = call N (add-path-rule r e rights 0) (adds-path r e rights 0) p
+  by-add N r rights (Done e) p q = call N _ (adds-path _ _ _ _) p
   by-add N r rights (Refused e) p q = (p, q)
   by-add N r rights (Denied e l s) p q = (p, q)
 
   by-rule : (r : ℕ) (N : Named) (q : Rule) → P N → Both (addRule r N q)
   unfolding addRule
   by-rule r N (path rights p) h = by-add N r rights (lookupNamed N p .reply) h (look N p h)
-  by-rule r N (port rights n) h = call N (add-port-rule r n rights 0) (adds-port r n rights 0) h
+  by-rule r N (port rights n) h = call N _ (adds-port _ _ _ _) h
 
   or-close : (r : ℕ) (a : Reply) (N : Named) (rest : Named → NamedOutcome) → P N → Q a → Both (rest N) → Both (orClose r a N rest)
   unfolding orClose
   or-close r (Done n) N rest p q b = b
-  or-close r (Refused e) N rest p q b = (call N (close-ruleset r) (closes r) p .0, q)
-  or-close r (Denied e l s) N rest p q b = (call N (close-ruleset r) (closes r) p .0, q)
+  or-close r (Refused e) N rest p q b = (call N _ (closes _) p .0, q)
+  or-close r (Denied e l s) N rest p q b = (call N _ (closes _) p .0, q)
 
   by-rules : (r : ℕ) (qs : List Rule) (N : Named) → P N → Both (addRules r qs N)
   unfolding addRules
   by-rules r [] N p = (p, done r)
   by-rules r (q ∷ qs) N p =
       let b : Both (addRule r N q) = by-rule r N q p in
-      or-close r (addRule r N q .reply) (addRule r N q .left) (addRules r qs) (b .0) (b .1) (by-rules r qs (addRule r N q .left) (b .0))
+      or-close _ (addRule r N q .reply) (addRule r N q .left) (addRules r qs) (b .0) (b .1) (by-rules r qs (addRule r N q .left) (b .0))
 
   then-add : (rules : List Rule) (a : Reply) (N : Named) → P N → Q a → Both (thenAdd rules a N)
   unfolding thenAdd
-  then-add rules (Done r) N p q = by-rules r rules N p
+  then-add rules (Done r) N p q = by-rules _ rules N p
   then-add rules (Refused e) N p q = (p, q)
   then-add rules (Denied e l s) N p q = (p, q)
 
   pub by-calls : (N : Named) (s : List ℕ) → P N → P (applied N s .left) × Q (applied N s .reply)
   unfolding applied
-  by-calls N s p =
-      let c = create-ruleset (masksOf s) 0 in
-      let b = call N c (creates (masksOf s) 0) p in
-      then-add (rulesOf (level (N .core .system)) s) (onNamed N c .reply) (onNamed N c .left) (b .0) (b .1)
+  by-calls N s p = then-add _ _ _ (call N _ (creates _ _) p .0) (call N _ (creates _ _) p .1)
 
 -- ---- M is what calls on rulesets leave of N
 pub record MadeBy (N M : Named) : Type 0 where

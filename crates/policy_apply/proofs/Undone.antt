@@ -8,7 +8,7 @@ use Rattle.access.specs.Limits.{maxRulesets}
 use Rattle.access.specs.Reply.{isRefused}
 use Rattle.access.specs.declared.errno.Reply.{Reply}
 use Rattle.access.specs.declared.errno.Reply.the-variants.{Done, Refused, Denied}
-use Rattle.tables.specs.Tables.{Tables, level}
+use Rattle.tables.specs.Tables.{Tables}
 use Rattle.tables.specs.Layers.{isOpen}
 use Rattle.tables.specs.Outcome.{Outcome}
 use Rattle.sound.proofs.Facts.{Sound, facts}
@@ -20,7 +20,7 @@ use Rattle.named.specs.Policy.{lookupNamed, onNamed, addAt, addRule, orClose, a
 use Rattle.named.specs.Calls.{apply, outcomeNamed, afterNamed, replyNamed}
 use Rattle.named.proofs.Made.{lift-unnamed, lift-goes, named-cases}
 use Rattle.named.proofs.Kept.{kept}
-use Rattle.policy.specs.Meaning.{Rule, path, port, rulesOf, masksOf}
+use Rattle.policy.specs.Meaning.{Rule, path, port}
 use Rattle.policy_apply.specs.Promise.{Applying}
 use Rattle.policy_apply.proofs.Rows.{by-call, Since, since-path, since-port, closed-back, opens-free, since-create}
 
@@ -73,10 +73,7 @@ module _ (N : Named) (named : namesSound (N .core .entries) (N .names) ≡ true)
         let B = along-rule X q A in
         or-undone (addRule r X q .reply) (addRule r X q .left) (addRules r qs) B (rules-undone qs (addRule r X q .left) B) h
 
-module _ (N : Named) (s : List ℕ) where
-  abbrev rules : List Rule
-  rules = rulesOf (level (N .core .system)) s
-
+module _ (N : Named) (rules : List Rule) (bs : List ℕ) where
   -- what follows the create
   abbrev Undone : NamedOutcome → Type 0
   Undone o = isRefused (thenAdd rules (o .reply) (o .left) .reply) ≡ true → thenAdd rules (o .reply) (o .left) .left ≡ N
@@ -84,23 +81,25 @@ module _ (N : Named) (s : List ℕ) where
   abbrev Made : Outcome → Type 0
   Made p = Undone (namedOutcome (p .reply) (withNames (p .left) (N .names)))
 
-  after-create : namesSound (N .core .entries) (N .names) ≡ true → Made (created (N .core) (masksOf s) 0)
+  after-create : namesSound (N .core .entries) (N .names) ≡ true → Made (created (N .core) bs 0)
   unfolding created createDone thenAdd
   after-create named =
       let T = N .core in
-      let bs = masksOf s in
       by-call T (createChecks T bs 0) (createDone T bs) Made (λ n h. refl)
       (λ sound z.
       let f = opens-free T bs sound z in
       rules-undone N named (freeRuleset (T .rulesets)) (facts T sound) (f .0) (f .1) rules (withNames (createDone T bs .left) (N .names)) (record { since = since-create T bs sound z; same = refl }))
 
-  applied-undone : isRefused (applied N s .reply) ≡ true → applied N s .left ≡ N
-  unfolding applied
-  applied-undone =
-      let o = outcomeOf (N .core) (create-ruleset (masksOf s) 0) in
+  then-undone : Undone (onNamed N (create-ruleset bs 0))
+  then-undone =
+      let o = outcomeOf (N .core) (create-ruleset bs 0) in
       split (namesSound (N .core .entries) (N .names))
       (λ named. subst Undone (lift-goes N o named) (unfold outcomeOf in after-create named))
       (λ not-named. subst Undone (lift-unnamed N o not-named) (unfold thenAdd in λ h. refl))
+
+applied-undone : (N : Named) (s : List ℕ) → isRefused (applied N s .reply) ≡ true → applied N s .left ≡ N
+unfolding applied
+applied-undone N s = then-undone N _ _
 
 refused-undone : (N : Named) (stock site name : List ℕ) → isRefused (replyNamed N (apply stock site name)) ≡ true → afterNamed N (apply stock site name) ≡ N
 unfolding outcomeNamed applyNamed
