@@ -111,17 +111,22 @@ fn file(model: &Model, random: &mut Random) -> Vec<u8> {
 }
 
 fn ruleset(name: &[u8], model: &Model, random: &mut Random) -> Vec<u8> {
+    if random.chance(6) {
+        return many_rules(name, random);
+    }
     let masks = masks(model, random);
     let mut bytes = opening(name, masks);
-    let count = match random.below(16) {
-        0 => 70,
-        1..=3 => 0,
-        _ => random.between(1, 6),
-    };
-    for number in 0..count {
-        let distinct = (count == 70).then_some(number as u16);
-        bytes.extend(rule(masks, distinct, model, random));
+    for _ in 0..random.pick(&[0, 1, 2, 3, 4, 6]) {
+        bytes.extend(rule(masks, model, random));
     }
+    bytes
+}
+
+/// A ruleset with about as many rules as one may have.
+fn many_rules(name: &[u8], random: &mut Random) -> Vec<u8> {
+    let mut bytes = opening(name, [0, 1, 0]);
+    let count = random.pick(&[64, 65, 66]);
+    bytes.extend((0..count).flat_map(|port| port_rule(1, port)));
     bytes
 }
 
@@ -142,11 +147,11 @@ fn masks(model: &Model, random: &mut Random) -> [u64; 3] {
     masks
 }
 
-/// A rule that a ruleset with these masks may have, or not; one for a port of its own where that is wanted.
-fn rule(masks: [u64; 3], port: Option<u16>, model: &Model, random: &mut Random) -> Vec<u8> {
+/// A rule that a ruleset with these masks may have, or not.
+fn rule(masks: [u64; 3], model: &Model, random: &mut Random) -> Vec<u8> {
     let [fs, net, _] = masks;
-    if port.is_some() || random.chance(30) {
-        let port = port.unwrap_or_else(|| random.pick(&[0, 1, 80, 255, 256, 443, 65_535]));
+    if random.chance(30) {
+        let port = random.pick(&[0, 1, 80, 255, 256, 443, 65_535]);
         return port_rule(some_of(net, random), port);
     }
     let path = path(model, random);
