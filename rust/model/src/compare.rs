@@ -259,12 +259,13 @@ pub fn sweep<B: Broker>(broker: &mut B, seed: u64, tally: &mut Tally) -> Option<
 /// Finds and applies rulesets of policy files with every byte changed and more, at several levels; answers a case in
 /// which the sides differ.
 pub fn sweep_files<B: Broker>(broker: &mut B, tally: &mut Tally) -> Option<Case> {
-    for (number, wanted) in files::sweep().into_iter().enumerate() {
-        let level = [6, 6, 4, 3, 1][number % 5];
+    let swept = files::sweep();
+    for (place, level) in [6, 4, 3, 1, 6].into_iter().enumerate() {
         let mut session = Session::new(broker, files::worked_tree(level), Mix::Every, [0; 3]);
-        let mut steps = [Step::FindPolicy(wanted.clone()), Step::ApplyPolicy(wanted)].into_iter();
-        if steps.any(|step| session.take(tally, step).is_some()) {
-            return Some(session.case);
+        for wanted in swept.iter().skip(place).step_by(5) {
+            if session.files(tally, wanted).is_some() {
+                return Some(session.case);
+            }
         }
     }
     None
@@ -296,7 +297,7 @@ pub fn compare<B: Broker>(broker: &mut B, options: &Options, tally: &mut Tally) 
         let mix = run.random.pick(&[Mix::Every, Mix::Tree]);
         let queue = run.queue_random.pick(&[0, 5, 50]);
         let batch = run.batch_random.pick(&[0, 3, 20]);
-        let policy = run.policy_random.pick(&[0, 3, 20]);
+        let policy = run.policy_random.pick(&[0, 5, 25]);
         let mut session = Session::new(broker, start, mix, [queue, batch, policy]);
         if session.play(&mut run).is_some() {
             return Some(session.case);
@@ -448,6 +449,26 @@ impl<B: Broker> Session<'_, B> {
             Err(_) => call(&self.case.start, Mix::Every, &mut run.random),
         };
         self.take(run.tally, Step::Call(call))
+    }
+
+    /// Finds and applies a ruleset, and closes it again: then the tables are as before, and so is the case.
+    fn files(&mut self, tally: &mut Tally, wanted: &Wanted) -> Option<Difference> {
+        let steps = [Step::FindPolicy, Step::ApplyPolicy].map(|step| step(wanted.clone()));
+        let difference = steps.into_iter().find_map(|step| self.take(tally, step));
+        if difference.is_some() {
+            return difference;
+        }
+        let model = self.pair.reference.model().ok()?;
+        if let Some(ruleset) = model.rulesets.keys().next().copied() {
+            let close = Step::Call(Call::CloseRuleset { ruleset });
+            let difference = self.take(tally, close);
+            if difference.is_some() {
+                return difference;
+            }
+        }
+        self.pair.steps = 0;
+        self.case.steps.clear();
+        None
     }
 
     /// A name in policy files, applied more often than found.

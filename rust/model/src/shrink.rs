@@ -286,7 +286,7 @@ fn simpler_batches(batch: &Batch) -> Vec<Step> {
     simpler.map(Step::Batch).collect()
 }
 
-/// Policy files without one of them, without a field or the last byte, with a shorter value in a field, or a report with
+/// Policy files without one of them, without fields or the last byte, with a shorter value in a field, or a report with
 /// fewer cells.
 fn simpler_files(wanted: &Wanted) -> Vec<Wanted> {
     let mut simpler = Vec::new();
@@ -297,8 +297,13 @@ fn simpler_files(wanted: &Wanted) -> Vec<Wanted> {
     };
     for (number, file) in wanted.files.iter().enumerate() {
         with(number, Vec::new());
-        for pair in places(file).windows(2) {
-            with(number, [&file[..pair[0]], &file[pair[1]..]].concat());
+        let fields = places(file);
+        // A ruleset without its rules has two.
+        for count in [fields.len() / 2, fields.len() / 4, 2, 1] {
+            for range in fields.windows(count + 1) {
+                let (start, end) = (range[0], range[count]);
+                with(number, [&file[..start], &file[end..]].concat());
+            }
         }
         for pair in places(file).windows(2) {
             let value = &file[pair[0] + 3..pair[1]];

@@ -2440,12 +2440,16 @@ impl<F: Fn(&Wanted) -> (Answer, [u64; 3])> Broker for Reading<F> {
     }
 }
 
-/// A wrong reader: found among random files and among those of the sweep, in a case of one step. What the sides answer there.
+/// A wrong reader: found among swept files, in a case of one step. What the sides answer there.
 fn found_reading(fault: impl Fn(&Wanted) -> (Answer, [u64; 3])) -> (Wanted, [Reply; 2]) {
     let mut broker = Reading(fault);
-    let swept = sweep_files(&mut broker, &mut Tally::default());
-    assert!(swept.is_some(), "not found among swept files");
-    let (case, difference) = found(&mut broker);
+    let case = sweep_files(&mut broker, &mut Tally::default());
+    found_in_files(&mut broker, case)
+}
+
+/// The files of a case that is one search, when it is short, and what the sides answer.
+fn found_in_files<B: Broker>(broker: &mut B, case: Option<Case>) -> (Wanted, [Reply; 2]) {
+    let (case, difference) = shortened(broker, case);
     let text = scenario(&case, &difference);
     let [Step::FindPolicy(wanted)] = case.steps.as_slice() else {
         panic!("{text}");
@@ -2483,6 +2487,9 @@ fn places_of_other_fields_are_found() {
         (answer, [file, opening.unwrap_or(0) as u64, 0])
     };
     found_reading_of(enclosing, [EBADMSG; 2]);
+    // Among random files, too.
+    let (case, difference) = found(&mut Reading(enclosing));
+    assert_eq!(case.steps.len(), 1, "{}", scenario(&case, &difference));
     // A name whose masks are missing at the end.
     let name = |wanted: &Wanted| {
         let (answer, [file, place, length]) = wanted.find();

@@ -69,11 +69,11 @@ pub fn wanted(model: &Model, random: &mut Random) -> Wanted {
         0 => Vec::new(),
         _ => file(model, random),
     });
-    if random.chance(25) {
+    if random.chance(40) {
         let file = random.below(2) as usize;
         damage(&mut files[file], random);
     }
-    if random.chance(4) {
+    if random.chance(6) {
         let file = random.below(2) as usize;
         fill_up(&mut files[file], random);
     }
@@ -210,7 +210,7 @@ fn damage(file: &mut Vec<u8>, random: &mut Random) {
             file.splice(place..place, opening(&name, [4, 0, 0]));
         }
         11 => {
-            let tag = random.pick(&[0, 2, 3, 4, 5, 6, 16, 255]);
+            let tag = random.pick(&[0, 2, 3, 3, 4, 4, 5, 6, 16, 255]);
             let length = random.pick(&[0, 1, 7, 8, 9, 10, 11, 23, 24, 25]);
             let value: Vec<u8> = (0..length).map(|_| random.number() as u8).collect();
             file.splice(place..place, field(tag, &value));
@@ -276,6 +276,7 @@ fn bases() -> Vec<Vec<u8>> {
         opening(b"q", [6, 3, 0]),
         port_rule(1, 80),
         path_rule(2, b"/import/feed"),
+        path_rule(4, b""),
         opening(&[b'n'; LONGEST_NAME], [0, 0, 2]),
         opening(b"p", [4, 0, 1]),
         path_rule(4, b"/cal/table"),

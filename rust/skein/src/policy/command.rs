@@ -56,15 +56,12 @@ fn refused(messages: String, code: u8) -> Outcome {
     }
 }
 
-/// A message about a file.
-fn about(file: &OsStr, message: &str, code: u8) -> Outcome {
-    let name = escaped(&file.to_string_lossy());
-    refused(format!("{name}: {message}\n"), code)
-}
-
 fn unread(file: &OsStr, unread: Unread) -> Outcome {
     match unread {
-        Unread::Io(error) => about(file, &error.to_string(), UNREADABLE),
+        Unread::Io(error) => {
+            let name = escaped(&file.to_string_lossy());
+            refused(format!("skein: {name}: {error}\n"), UNREADABLE)
+        }
         Unread::Lines(lines) => refused(bad_lines(&file.to_string_lossy(), &lines), BAD_INPUT),
     }
 }
@@ -101,7 +98,8 @@ fn faulty(file: &OsStr, bytes: &[u8], refusal: PolicyRefusal) -> Outcome {
         }
         _ => format!("found more than {LONGEST_FILE} bytes; expected at most so many"),
     };
-    about(file, &message, BAD_INPUT)
+    let name = escaped(&file.to_string_lossy());
+    refused(format!("{name}: {message}\n"), BAD_INPUT)
 }
 
 /// Says which rulesets a file has.
