@@ -8,7 +8,7 @@ const PROVED: &str = include_str!("../../../crates/capi/src/lib.rt");
 type Changes = BTreeMap<&'static str, [bool; 7]>;
 
 /// The exports that take no tables.
-const TABLELESS: [&str; 2] = ["component(", "post("];
+const TABLELESS: [&str; 3] = ["component(", "post(", "find_policy("];
 
 fn takes_tables(row: &&str) -> bool {
     !TABLELESS.iter().any(|name| row.starts_with(name))
@@ -65,7 +65,7 @@ fn proved() -> Changes {
 #[test]
 fn tables_are_writable_exactly_where_the_proved_export_writes() {
     let (declared, proved) = (declared(), proved());
-    assert_eq!(declared.len(), 23);
+    assert_eq!(declared.len(), 24);
     for (name, tables) in declared {
         assert_eq!(proved.get(name), Some(&tables), "{name}");
     }
@@ -109,21 +109,54 @@ fn parts_of_a_queue_are_writable_exactly_where_the_proved_export_writes() {
     assert_eq!(proved_queue("turn(").len(), 4);
 }
 
-#[test]
-fn only_the_answers_of_a_batch_are_writable() {
+/// The kinds of an export's parameters after the first ones.
+fn proved_kinds(name: &str, first: usize) -> Vec<&'static str> {
     let export = PROVED.split("extern \"C\" fn skein_");
-    let export = export.skip(1).find(|export| export.starts_with("batch("));
+    let export = export.skip(1).find(|export| export.starts_with(name));
     let (parameters, _) = export.unwrap().split_once(") -> u64").unwrap();
     let kinds = parameters.lines().filter_map(|line| line.split_once(": "));
-    let lists: Vec<&str> = kinds.skip(7).map(|(_, kind)| kind).collect();
+    kinds.skip(first).map(|(_, kind)| kind).collect()
+}
+
+/// That a declaration, from its start to its end, has these parameters in this order.
+fn declares(start: &str, end: &str, parameters: &[&str]) {
+    let (_, declared) = DECLARED.split_once(start).unwrap();
+    let (declared, _) = declared.split_once(end).unwrap();
+    let places = parameters
+        .iter()
+        .map(|text| declared.find(text).expect(text));
+    assert!(places.is_sorted(), "{start}");
+}
+
+#[test]
+fn only_the_answers_of_a_batch_are_writable() {
+    let lists = proved_kinds("batch(", 7);
     assert_eq!(lists, ["&[u64],", "&[u8],", "&mut [u64],"]);
-    let (_, batch) = DECLARED.split_once("skein_batch[").unwrap();
-    let (batch, _) = batch.split_once("\n}").unwrap();
-    let places = [
+    let parameters = [
         "requests.as_ptr() => *const u64,",
         "names.as_ptr() => *const u8,",
         "answers.as_mut_ptr() => *mut u64,",
-    ]
-    .map(|declared| batch.find(declared).expect(declared));
-    assert!(places.is_sorted());
+    ];
+    declares("skein_batch[", "\n}", &parameters);
+}
+
+#[test]
+fn only_the_report_about_policy_files_is_writable() {
+    let kinds = ["&[u8],", "&[u8],", "&[u8],", "&mut [u64],"];
+    assert_eq!(proved_kinds("find_policy(", 0), kinds);
+    assert_eq!(proved_kinds("apply_policy(", 7), kinds);
+    let parameters = [
+        "stock: *const u8,",
+        "site: *const u8,",
+        "name: *const u8,",
+        "report: *mut u64,",
+    ];
+    declares("fn skein_find_policy(", ") -> u64", &parameters);
+    let parameters = [
+        "stock.as_ptr() => *const u8,",
+        "site.as_ptr() => *const u8,",
+        "name.as_ptr() => *const u8,",
+        "report.as_mut_ptr() => *mut u64,",
+    ];
+    declares("skein_apply_policy[", "\n}", &parameters);
 }
