@@ -181,6 +181,11 @@ fn damage(file: &mut Vec<u8>, random: &mut Random) {
     let place = random.pick(&fields);
     let end = fields.iter().copied().find(|end| *end > place);
     let end = end.unwrap_or(file.len());
+    if random.chance(50) {
+        let faulty = random.pick(&[0, 1, 2, 3, 4, 5]);
+        file.splice(place..place, faulty_field(faulty));
+        return;
+    }
     match random.below(14) {
         0 => write(file, place, random.below(8) as u8),
         1 => write(file, place, random.number() as u8),
@@ -221,6 +226,18 @@ fn damage(file: &mut Vec<u8>, random: &mut Random) {
             let at = random.below(file.len() as u64 + 1) as usize;
             write(file, at, random.number() as u8);
         }
+    }
+}
+
+/// A field that is faulty itself, wherever a rule may stand.
+fn faulty_field(number: usize) -> Vec<u8> {
+    match number {
+        0 => field(3, &[0; 7]),
+        1 => field(4, &[0; 9]),
+        2 => field(2, &[0; MASKS]),
+        3 => opening(&[], [4, 0, 0]),
+        4 => opening(&[b'n'; LONGEST_NAME + 1], [4, 0, 0]),
+        _ => field(6, &[]),
     }
 }
 
