@@ -181,15 +181,16 @@ fn damage(file: &mut Vec<u8>, random: &mut Random) {
     let place = random.pick(&fields);
     let end = fields.iter().copied().find(|end| *end > place);
     let end = end.unwrap_or(file.len());
+    if random.chance(50) {
+        let faulty = random.pick(&[0, 1, 2, 3, 4, 5]);
+        file.splice(place..place, faulty_field(faulty));
+        return;
+    }
     match random.below(14) {
-        0 => write(file, place, random.below(8) as u8),
-        1 => write(file, place, random.number() as u8),
-        2 | 3 => {
-            let by = random.pick(&[1, 255, 8, 16]);
-            let old = file.get(place + 1).copied().unwrap_or(0);
-            write(file, place + 1, old.wrapping_add(by));
+        way @ (10 | 11) => {
+            let put = another_field(way, random);
+            file.splice(place..place, put);
         }
-        4 => write(file, place + 2, random.pick(&[1, 128, 255])),
         5 => file.truncate(random.below(file.len() as u64 + 1) as usize),
         6 => file.truncate(place),
         7 => {
@@ -202,25 +203,58 @@ fn damage(file: &mut Vec<u8>, random: &mut Random) {
             let at = random.pick(&fields);
             file.splice(at..at, again);
         }
+        12 => file.extend(field(1, &names()[random.below(3) as usize])),
+        way => write_byte(file, place, way, random),
+    }
+}
+
+/// A field that may be put anywhere, in one way or another.
+fn another_field(way: u64, random: &mut Random) -> Vec<u8> {
+    match way {
         10 => {
             let name = match random.below(3) {
                 0 => Vec::new(),
                 1 => vec![b'p'; LONGEST_NAME + 1],
                 _ => names()[0].clone(),
             };
-            file.splice(place..place, opening(&name, [4, 0, 0]));
+            opening(&name, [4, 0, 0])
         }
-        11 => {
+        _ => {
             let tag = random.pick(&[0, 2, 3, 3, 4, 4, 5, 6, 16, 255]);
             let length = random.pick(&[0, 1, 7, 8, 9, 10, 11, 23, 24, 25]);
             let value: Vec<u8> = (0..length).map(|_| random.number() as u8).collect();
-            file.splice(place..place, field(tag, &value));
+            field(tag, &value)
         }
-        12 => file.extend(field(1, &names()[random.below(3) as usize])),
+    }
+}
+
+/// Writes a byte of the field at a place, or any byte, in one way or another.
+fn write_byte(file: &mut [u8], place: usize, way: u64, random: &mut Random) {
+    match way {
+        0 => write(file, place, random.below(8) as u8),
+        1 => write(file, place, random.number() as u8),
+        2 | 3 => {
+            let by = random.pick(&[1, 255, 8, 16]);
+            let old = file.get(place + 1).copied().unwrap_or(0);
+            write(file, place + 1, old.wrapping_add(by));
+        }
+        4 => write(file, place + 2, random.pick(&[1, 128, 255])),
         _ => {
             let at = random.below(file.len() as u64 + 1) as usize;
             write(file, at, random.number() as u8);
         }
+    }
+}
+
+/// A field that is faulty itself, wherever a rule may stand.
+fn faulty_field(number: usize) -> Vec<u8> {
+    match number {
+        0 => field(3, &[0; 7]),
+        1 => field(4, &[0; 9]),
+        2 => field(2, &[0; MASKS]),
+        3 => opening(&[], [4, 0, 0]),
+        4 => opening(&[b'n'; LONGEST_NAME + 1], [4, 0, 0]),
+        _ => field(6, &[]),
     }
 }
 
