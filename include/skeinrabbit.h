@@ -3,7 +3,7 @@
  *
  * All state lies in one `struct skein_tables`, which the caller owns. Make it fresh once, then pass it to every call. Nothing is
  * allocated, and a refused call changes no cell. Requests that are to be answered in turn wait in a `struct skein_queue`; many
- * that are to be answered at once are an array of `struct skein_request`.
+ * that are to be answered at once are an array of `struct skein_request`. Rulesets may also come from policy files.
  *
  * Every call answers a number of zero or more (a new entry, ruleset or thread where one is made, else 0), or a negative error
  * number. Each comment below lists a call's refusals in the order in which they are tested. Before all of them, every call but
@@ -19,10 +19,11 @@
  * Any cells and any numbers are answered. A call is defined if
  * - every pointer is valid for what it points to (a whole struct skein_tables or skein_queue, `size` bytes, `count` requests or
  *   verdicts), aligned for its type and not NULL.
- *   Only an attribute, a name, a path or the names of a batch may be NULL, and count as no bytes then, whatever their size; and a
- *   report, and the requests and verdicts of a batch without requests;
- * - none of these overlap: the tables, a queue, the bytes of an attribute, a name or a path, a report, the requests, names and
- *   verdicts of a batch, and the two places where skeinrabbit_layer_rules and skeinrabbit_component report;
+ *   Only an attribute, a name, a path, a policy file or the names of a batch may be NULL, and count as no bytes then, whatever their
+ *   size; and a report, and the requests and verdicts of a batch without requests;
+ * - none of these overlap: the tables, a queue, the bytes of an attribute, a name, a path or a policy file, a report, the requests,
+ *   names and verdicts of a batch, and the two places where skeinrabbit_layer_rules and skeinrabbit_component report. Two policy files
+ *   may be the same bytes;
  * - 96 KiB of stack are left, for skeinrabbit_batch 1 MiB (docs/PERFORMANCE.md), which a thread or coroutine with a small stack
  *   may not have;
  * - no other call on the same tables or the same queue runs meanwhile, from a thread or from a signal handler. Calls on others may;
@@ -62,6 +63,8 @@ extern "C" {
 #define SKEIN_MAX_PORT 65535
 #define SKEIN_MAX_NAME 48   /* bytes of an entry's name */
 #define SKEIN_MAX_PATH 4095 /* bytes of a path that is looked up */
+#define SKEIN_MAX_POLICY 32768     /* bytes of a policy file */
+#define SKEIN_MAX_RULESET_NAME 32  /* bytes of a ruleset's name in a policy file */
 
 /* Cells of a rule and of a row of each table. */
 #define SKEIN_RULE_CELLS 3
@@ -241,6 +244,7 @@ typedef char skein_verdict_is_cells[sizeof(struct skein_verdict) == SKEIN_VERDIC
 #define SKEIN_ENAMETOOLONG 36
 #define SKEIN_ENOTEMPTY 39
 #define SKEIN_ENOMSG 42
+#define SKEIN_EBADMSG 74
 #define SKEIN_EOPNOTSUPP 95
 #define SKEIN_MAX_ERROR 4095
 
@@ -274,17 +278,46 @@ struct skein_report {
 /* Cells of a report, in the order of the struct. Only skein_access writes the third. */
 #define SKEIN_REPORT_CELLS 3
 
+/* The two policy files. */
+#define SKEIN_POLICY_STOCK 0
+#define SKEIN_POLICY_SITE 1
+
+/* Tags of the fields of a policy file (docs/POLICY.md). */
+#define SKEIN_POLICY_RULESET 1
+#define SKEIN_POLICY_MASKS 2
+#define SKEIN_POLICY_PATH_RULE 3
+#define SKEIN_POLICY_PORT_RULE 4
+
+/*
+ * What is said of policy files beside the answer:
+ * - with success where the ruleset's part stands: its file, its first byte there, and how many bytes it has, from its tag 1 up to the
+ *   next ruleset or the file's end;
+ * - with EBADMSG the damaged file and the place of the first faulty field's tag, or the file's length if only the masks of the last
+ *   ruleset are missing;
+ * - with E2BIG of a file that is too long the file.
+ * Everything else is zero, and with every other answer all of it.
+ */
+struct skein_policy_report {
+	uint64_t file; /* SKEIN_POLICY_STOCK or SKEIN_POLICY_SITE */
+	uint64_t place;
+	uint64_t length;
+};
+
+/* Cells of that report, in the order of the struct. */
+#define SKEIN_POLICY_REPORT_CELLS 3
+
 /*
  * The functions of the archive: each table as pointer and number of cells, then the arguments. The result is the success number,
  * or 2^64 minus the error number. Prefer the inline functions further down.
  *
- * The calls that only ask, skein_turn and skein_batch take tables that are const; skein_component and skein_post take none. A `report`
- * may have any number of cells: those that fit are written, and cells past them stay as they were. The parts of a queue may have any
+ * The calls that only ask, skein_turn and skein_batch take tables that are const; skein_component, skein_post and skein_find_policy
+ * take none. A `report` may have any number of cells: those that fit are written, and cells past them stay as they were. The parts of a queue may have any
  * length, too; `cursor` is one cell, and a call on a queue with a part of a wrong length answers EIO. So may the lists of a batch: one
  * whose requests end within a request, or with fewer than 3 cells for the verdict of each, is EINVAL, and cells past the last verdict
  * stay.
  * Each pointer must be aligned (cells to 8 bytes) and valid for its length, and not NULL even if the length is 0. The tables, the
- * parts of a queue, the lists of a batch, the bytes of an attribute, a name or a path, a report and the report `part` must not overlap.
+ * parts of a queue, the lists of a batch, the bytes of an attribute, a name, a path or a policy file, a report and the report `part`
+ * must not overlap.
  */
 #define SKEIN_TABLE_PARAMETERS(cell, byte) \
 	cell *system_cells, size_t system_length, cell *entries, size_t entries_length, cell *rulesets, \
@@ -330,6 +363,11 @@ extern uint64_t skein_turn(SKEIN_CONST_TABLES, const uint64_t *requests, size_t 
 extern uint64_t skein_batch(SKEIN_CONST_TABLES, const uint64_t *requests, size_t requests_length, const uint8_t *request_names,
 			    size_t request_names_length, uint64_t *verdicts, size_t verdicts_length);
 
+extern uint64_t skein_find_policy(const uint8_t *stock, size_t stock_length, const uint8_t *site, size_t site_length,
+				  const uint8_t *name, size_t name_length, uint64_t *report, size_t report_length);
+extern uint64_t skein_apply_policy(SKEIN_TABLES, const uint8_t *stock, size_t stock_length, const uint8_t *site, size_t site_length,
+				   const uint8_t *name, size_t name_length, uint64_t *report, size_t report_length);
+
 /* The parts of a queue as the arguments of an archive's function. */
 #define SKEIN_QUEUE_ARGUMENTS(q) \
 	(q)->requests, sizeof((q)->requests) / sizeof(uint64_t), (q)->states, sizeof((q)->states) / sizeof(uint64_t), \
@@ -357,6 +395,17 @@ static inline int64_t skeinrabbit_reported(uint64_t result, const uint64_t *cell
 		report->layer = cells[0];
 		report->rights = cells[1];
 		report->entries_read = cells[2];
+	}
+	return skeinrabbit_answer(result);
+}
+
+/* The same with the cells of a report about policy files. */
+static inline int64_t skeinrabbit_policy_reported(uint64_t result, const uint64_t *cells, struct skein_policy_report *report)
+{
+	if (report != NULL) {
+		report->file = cells[0];
+		report->place = cells[1];
+		report->length = cells[2];
 	}
 	return skeinrabbit_answer(result);
 }
@@ -424,6 +473,43 @@ static inline int64_t skeinrabbit_add_port_rule(struct skein_tables *t, uint64_t
 						uint64_t flags)
 {
 	return skeinrabbit_answer(skein_add_port_rule(SKEIN_TABLE_ARGUMENTS(t), ruleset, port, rights, flags));
+}
+
+/*
+ * Finds the ruleset of a name in two policy files: the site's if it has one, otherwise the stock's. Both are read whole first. It takes
+ * no tables. An empty file (or NULL) is fine and has no ruleset.
+ * E2BIG stock longer than 32,768 bytes; EBADMSG stock damaged; E2BIG and EBADMSG the same of site; ENOENT neither has the name.
+ */
+static inline int64_t skeinrabbit_find_policy(const void *stock, size_t stock_size, const void *site, size_t site_size,
+					      const void *name, size_t name_size, struct skein_policy_report *report)
+{
+	uint64_t cells[SKEIN_POLICY_REPORT_CELLS] = { 0 };
+	const uint64_t result = skein_find_policy(skeinrabbit_bytes(stock, stock_size), skeinrabbit_length(stock, stock_size),
+						  skeinrabbit_bytes(site, site_size), skeinrabbit_length(site, site_size),
+						  skeinrabbit_bytes(name, name_size), skeinrabbit_length(name, name_size), cells,
+						  SKEIN_POLICY_REPORT_CELLS);
+
+	return skeinrabbit_policy_reported(result, cells, report);
+}
+
+/*
+ * Opens a ruleset as policy files have it under a name; answers its number. It makes the calls that the ruleset's part says, in the
+ * order of the file and without flags: skeinrabbit_create_ruleset with its three masks, skeinrabbit_lookup and skeinrabbit_add_path_rule
+ * for a path rule, skeinrabbit_add_port_rule for a port rule. The first call that is refused ends it, and the ruleset is closed again:
+ * then no cell has changed.
+ * What skeinrabbit_find_policy refuses; then what those calls refuse, in their order.
+ */
+static inline int64_t skeinrabbit_apply_policy(struct skein_tables *t, const void *stock, size_t stock_size, const void *site,
+					       size_t site_size, const void *name, size_t name_size,
+					       struct skein_policy_report *report)
+{
+	uint64_t cells[SKEIN_POLICY_REPORT_CELLS] = { 0 };
+	const uint64_t result = skein_apply_policy(SKEIN_TABLE_ARGUMENTS(t), skeinrabbit_bytes(stock, stock_size),
+						   skeinrabbit_length(stock, stock_size), skeinrabbit_bytes(site, site_size),
+						   skeinrabbit_length(site, site_size), skeinrabbit_bytes(name, name_size),
+						   skeinrabbit_length(name, name_size), cells, SKEIN_POLICY_REPORT_CELLS);
+
+	return skeinrabbit_policy_reported(result, cells, report);
 }
 
 /*

@@ -455,6 +455,108 @@ static void batch(struct skein_tables *t)
 	expect_verdict("access, damaged", &verdicts[1], SKEIN_EIO, 0, 0);
 }
 
+/* What a call on policy files must answer and report. */
+static void expect_policy(const char *call, int64_t answer, int64_t expected, const struct skein_policy_report *report, uint64_t file,
+			  uint64_t place, uint64_t length)
+{
+	expect(call, answer, expected);
+	expect("its file", (int64_t)report->file, (int64_t)file);
+	expect("its place", (int64_t)report->place, (int64_t)place);
+	expect("its length", (int64_t)report->length, (int64_t)length);
+}
+
+/* Puts a field of a policy file behind others; answers where it ends. */
+static size_t put_field(uint8_t *file, size_t at, uint8_t tag, const void *value, uint8_t length)
+{
+	file[at] = tag;
+	file[at + 1] = length;
+	file[at + 2] = 0;
+	memcpy(file + at + 3, value, length);
+	return at + 3 + length;
+}
+
+/* A ruleset that handles these rights, without rules. */
+static size_t put_ruleset(uint8_t *file, size_t at, char name, uint8_t rights)
+{
+	const uint8_t masks[24] = { rights };
+
+	at = put_field(file, at, SKEIN_POLICY_RULESET, &name, 1);
+	return put_field(file, at, SKEIN_POLICY_MASKS, masks, sizeof(masks));
+}
+
+/* A rule that grants reading. */
+static size_t put_path_rule(uint8_t *file, size_t at, const char *path)
+{
+	uint8_t value[32] = { SKEIN_FS_READ_FILE };
+
+	memcpy(value + 8, path, strlen(path));
+	return put_field(file, at, SKEIN_POLICY_PATH_RULE, value, (uint8_t)(8 + strlen(path)));
+}
+
+/* Rulesets p and q in the stock file, another q in the site file. */
+static void found_policies(const uint8_t *stock, size_t stock_size, const uint8_t *site, size_t site_size)
+{
+	static const uint8_t zeros[SKEIN_MAX_POLICY + 1] = { 0 };
+	struct skein_policy_report r;
+	uint64_t cells[4] = { 7, 7, 7, 7 };
+
+	expect_policy("find_policy", skeinrabbit_find_policy(stock, stock_size, site, site_size, "p", 1, &r), 0, &r, 0, 0, 46);
+	expect_policy("find_policy, both", skeinrabbit_find_policy(stock, stock_size, site, site_size, "q", 1, &r), 0, &r, 1, 0, 31);
+	expect_policy("find_policy, no site", skeinrabbit_find_policy(stock, stock_size, NULL, 9, "q", 1, &r), 0, &r, 0, 46, 31);
+	expect_policy("find_policy, neither", skeinrabbit_find_policy(stock, stock_size, site, site_size, "pq", 2, &r), -SKEIN_ENOENT, &r,
+		      0, 0, 0);
+	expect_policy("find_policy, no name", skeinrabbit_find_policy(stock, stock_size, site, site_size, NULL, 1, &r), -SKEIN_ENOENT, &r,
+		      0, 0, 0);
+	expect_policy("find_policy, masks missing", skeinrabbit_find_policy(stock, stock_size, site, 4, "p", 1, &r), -SKEIN_EBADMSG, &r, 1,
+		      4, 0);
+	expect_policy("find_policy, stock first", skeinrabbit_find_policy(stock, 45, site, 4, "p", 1, &r), -SKEIN_EBADMSG, &r, 0, 31, 0);
+	expect_policy("find_policy, too long", skeinrabbit_find_policy(stock, stock_size, zeros, sizeof(zeros), "p", 1, &r), -SKEIN_E2BIG,
+		      &r, 1, 0, 0);
+	expect("find_policy, not wanted", skeinrabbit_find_policy(stock, stock_size, site, site_size, "p", 1, NULL), 0);
+	expect("find_policy, a long report",
+	       skeinrabbit_answer(skein_find_policy(stock, stock_size, site, site_size, stock + 49, 1, cells, 4)), 0);
+	expect("cell past the report", (int64_t)cells[3], 7);
+	expect("find_policy, a short report", skeinrabbit_answer(skein_find_policy(stock, stock_size, site, site_size, stock + 3, 1, cells, 1)),
+	       0);
+	expect("file", (int64_t)cells[0], SKEIN_POLICY_STOCK);
+	expect("cell past a short report", (int64_t)cells[2], 31);
+}
+
+/* Policy files, on the worked tree. */
+static void policy_files(struct skein_tables *t)
+{
+	static struct skein_tables before;
+	static uint8_t stock[128], site[64];
+	struct skein_policy_report r;
+	const size_t end_of_p = put_path_rule(stock, put_ruleset(stock, 0, 'p', SKEIN_FS_READ_FILE), "/cal");
+	const size_t stock_size = put_ruleset(stock, end_of_p, 'q', SKEIN_FS_EXECUTE);
+	const size_t site_size = put_ruleset(site, 0, 'q', SKEIN_FS_WRITE_FILE);
+
+	expect("bytes of the stock file", (int64_t)stock_size, 77);
+	found_policies(stock, stock_size, site, site_size);
+	worked_tree(t, WORKED);
+	expect("close_ruleset", skeinrabbit_close_ruleset(t, 0), 0);
+	expect_policy("apply_policy", skeinrabbit_apply_policy(t, stock, stock_size, site, site_size, "p", 1, &r), 0, &r, 0, 0, 46);
+	expect("its masks", (int64_t)t->rulesets[0], SKEIN_FS_READ_FILE);
+	expect("its rules", (int64_t)t->rulesets[3], 1);
+	expect("its object", (int64_t)t->rulesets[5], 1);
+	expect_policy("apply_policy, both", skeinrabbit_apply_policy(t, stock, stock_size, site, site_size, "q", 1, &r), 1, &r, 1, 0, 31);
+	expect("its masks", (int64_t)t->rulesets[SKEIN_RULESET_CELLS], SKEIN_FS_WRITE_FILE);
+	before = *t;
+	expect_policy("apply_policy, neither", skeinrabbit_apply_policy(t, stock, stock_size, site, site_size, "x", 1, &r), -SKEIN_ENOENT, &r,
+		      0, 0, 0);
+	put_path_rule(stock, 31, "/can");
+	expect_policy("apply_policy, no such path", skeinrabbit_apply_policy(t, stock, stock_size, site, site_size, "p", 1, &r),
+		      -SKEIN_ENOENT, &r, 0, 0, 0);
+	stock[0] = 0;
+	expect_policy("apply_policy, damaged", skeinrabbit_apply_policy(t, stock, stock_size, site, site_size, "q", 1, &r), -SKEIN_EBADMSG, &r,
+		      0, 0, 0);
+	expect("tables after refusals", memcmp(t, &before, sizeof(before)), 0);
+	t->system[0] = SKEIN_MAX_LEVEL + 1;
+	expect_policy("apply_policy, tables not sound", skeinrabbit_apply_policy(t, stock, stock_size, site, site_size, "q", 1, &r),
+		      -SKEIN_EIO, &r, 0, 0, 0);
+}
+
 /* The limits that the header names, on fresh tables. */
 static void limits(struct skein_tables *t)
 {
@@ -507,6 +609,7 @@ int main(void)
 	queue(t);
 	damaged_queue(t);
 	batch(t);
+	policy_files(t);
 	limits(t);
 	return differences == 0 ? 0 : 1;
 }

@@ -5,12 +5,15 @@ use mathlib.Core.List.{List}
 use Prim.Native.Nat.{ℕ, _*_, min}
 use lib.Dec.{eqb}
 use lib.ListN.{length}
+use Rattle.access.specs.Reply.{replyTo}
 use Rattle.tables.specs.Tables.{Tables, ruleWidth}
 use Rattle.tables.specs.Layers.{layerFirst}
 use Rattle.domain.specs.Layer.{layerCode}
 use Rattle.codes.specs.Codes.{number, reported, reportedAccess}
 use Rattle.queue.specs.Queue.{Queue, Posted}
+use Rattle.policy.specs.Find.{found}
 use Rattle.named.specs.Named.{Named, NamedOutcome}
+use Rattle.named.specs.Policy.{applyNamed, foundNumber, foundPlace, appliedPlace, placed}
 
 -- an exported call answers the reply's number r, and leaves the tables N
 abbrev pub Answers : ℕ → Named → NamedOutcome → Type 0
@@ -23,6 +26,14 @@ Tells r N cells cells′ o = Answers r N o × (cells′ ≡ reported cells (o .r
 -- access also reports how many entries' rules were read, n
 abbrev pub TellsAccess : ℕ → Named → List ℕ → List ℕ → NamedOutcome → ℕ → Type 0
 TellsAccess r N cells cells′ o n = Answers r N o × (cells′ ≡ reportedAccess cells (o .reply) n)
+
+-- a name in two policy files: the number, and a report of the file, a place in it and a length
+abbrev pub FindsPolicy : ℕ → List ℕ → List ℕ → List ℕ → List ℕ → List ℕ → Type 0
+FindsPolicy r cells cells′ stock site name = (r ≡ number (replyTo (foundNumber (found stock site name)))) × (cells′ ≡ placed cells (foundPlace (found stock site name)))
+
+-- its ruleset applied to the tables N, which leaves M
+abbrev pub AppliesPolicy : ℕ → Named → Named → List ℕ → List ℕ → List ℕ → List ℕ → List ℕ → Type 0
+AppliesPolicy r N M cells cells′ stock site name = Answers r M (applyNamed N stock site name) × (cells′ ≡ placed cells (appliedPlace N stock site name))
 
 -- a post answers the reply's number r, and leaves the queue Q
 abbrev pub Posts : ℕ → Queue → Posted → Type 0

@@ -36,7 +36,7 @@ ghost use Rattle.named.specs.Queue.{answerOf, turnNamed};
 ghost use Rattle.named.specs.Batch.{batchOf, batchNamed};
 ghost use Rattle.named.specs.Tree.{createNamed, removeNamed, linkNamed, renameNamed, exchangeNamed};
 ghost use Rattle.path.specs.Span.{shownStart};
-ghost use Rattle.capi.specs.Codes.{Answers, Tells, TellsAccess, Posts, spanFrom};
+ghost use Rattle.capi.specs.Codes.{Answers, Tells, TellsAccess, FindsPolicy, AppliesPolicy, Posts, spanFrom};
 
 fn span_from(layers: &[u64], cells: usize, l: u64, code: u64) -> usize
     ensures { λ r. ⌜ r ≡ cond (eqb code 0) (min (ruleWidth * layerFirst (now (layers .entry)) l) cells) 0 ⌝ }
@@ -754,5 +754,51 @@ pub extern "C" fn skein_batch(
         requests,
         asked,
         answers,
+    ))
+}
+
+// What a name means in two policy files. `report` receives the file (0 stock, 1 site), where the ruleset's part starts and its length; with EBADMSG
+// the place of the fault and 0, with E2BIG the file alone.
+#[no_mangle]
+pub extern "C" fn skein_find_policy(
+    stock: &[u8],
+    site: &[u8],
+    name: &[u8],
+    report: &mut [u64],
+) -> u64
+    ensures { λ r. ⌜ FindsPolicy r (now (report .entry)) (now (report .exit)) (now (stock .entry)) (now (site .entry)) (now (name .entry)) ⌝ }
+{
+    number(syscalls_policy::find_policy(stock, site, name, report))
+}
+
+// Applies the ruleset of a name. `report` is as for `skein_find_policy`; zeros where the tables are unsound or a call refuses.
+#[no_mangle]
+pub extern "C" fn skein_apply_policy<'a>(
+    system: &[u64],
+    entries: &[u64],
+    rulesets: &mut [u64],
+    layers: &[u64],
+    pool: &[u64],
+    threads: &[u64],
+    names: &[u8],
+    stock: &'a [u8],
+    site: &'a [u8],
+    name: &[u8],
+    report: &mut [u64],
+) -> u64
+    ensures { λ r. ⌜ AppliesPolicy r (before system entries rulesets layers pool threads names) (after system entries rulesets layers pool threads names) (now (report .entry)) (now (report .exit)) (now (stock .entry)) (now (site .entry)) (now (name .entry)) ⌝ }
+{
+    number(syscalls_policy::apply_policy(
+        system,
+        entries,
+        rulesets,
+        layers,
+        pool,
+        threads,
+        names,
+        stock,
+        site,
+        name,
+        report,
     ))
 }

@@ -20,6 +20,7 @@ use Rattle.policy.specs.declared.File.{File}
 use Rattle.policy.specs.declared.File.the-variants.{Stock, Site}
 use Rattle.policy.specs.declared.Found.{Found}
 use Rattle.policy.specs.declared.Found.the-variants.{At, TooBig, Damaged, Missing}
+use Rattle.policy_find.specs.Within.{Inside, Within}
 use Rattle.policy.proofs.Pieces.{pieces-sizes}
 use Rattle.policy.proofs.Walks.{tag-at, first-from, place-fits}
 
@@ -61,9 +62,6 @@ module _ (file : File) (f name : List ℕ) (rest : Found) {at : ℕ} (e : at ≡
   has-not h = let k : length f ≤ placeOf f name = rw e at h in rw (le-ltb (placeOf f name) (length f) k)
 
 -- ---- a ruleset's part lies in its file
-abbrev pub Inside : List ℕ → Span → Type 0
-Inside f s = (s .at ≤ s .end) × (s .end ≤ length f)
-
 span-inside : (f name : List ℕ) (at : ℕ) → at + header + length name ≤ length f → Inside f (spanOf f name at)
 unfolding spanOf
 span-inside f name at h =
@@ -74,22 +72,19 @@ span-inside f name at h =
     (omega arith, omega arith)
 
 module _ (stock site : List ℕ) where
-  abbrev pub Within : Found → Type 0
-  Within (At file s) = Inside (bytesIn stock site file) s
-  Within (TooBig file) = Unit {0}
-  Within (Damaged file p) = Unit {0}
-  Within Missing = Unit {0}
+  abbrev Here : Found → Type 0
+  Here = Within stock site
 
-  whole-within : (file : File) (r : Read) (rest : Found) → Within rest → Within (whole file r rest)
+  whole-within : (file : File) (r : Read) (rest : Found) → Here rest → Here (whole file r rest)
   unfolding whole
   whole-within file (Next n) rest w = w
   whole-within file (Fault p) rest w = tt
 
-  checked-within : (file : File) (f : List ℕ) (rest : Found) → Within rest → Within (checked file f rest)
+  checked-within : (file : File) (f : List ℕ) (rest : Found) → Here rest → Here (checked file f rest)
   unfolding checked
   checked-within file f rest w = split (ltb maxFile (length f)) (λ q. rw q tt) (λ q. rw q (whole-within file (readFile f) rest w))
 
-  has-within : (file : File) (name : List ℕ) (rest : Found) → Within rest → Within (hasOr file (bytesIn stock site file) name rest)
+  has-within : (file : File) (name : List ℕ) (rest : Found) → Here rest → Here (hasOr file (bytesIn stock site file) name rest)
   unfolding hasOr
   has-within file name rest w =
       let f = bytesIn stock site file in
@@ -97,6 +92,6 @@ module _ (stock site : List ℕ) where
       (λ q. rw q (span-inside f name (placeOf f name) (place-fits f name (ltb-true _ _ q))))
       (λ q. rw q w)
 
-  pub found-within : (name : List ℕ) → Within (found stock site name)
+  pub found-within : (name : List ℕ) → Here (found stock site name)
   unfolding found bytesIn
   found-within name = checked-within Stock stock _ (checked-within Site site _ (has-within Site name _ (has-within Stock name Missing tt)))

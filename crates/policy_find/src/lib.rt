@@ -15,6 +15,7 @@ ghost use Prim.Native.Nat.{_+_, _≤_};
 ghost use lib.ListN.{length};
 ghost use Rattle.policy.specs.Fields.{header};
 ghost use Rattle.policy.specs.Find.{nextRuleset, spanOf, hasOr, found, partOf};
+ghost use Rattle.policy_find.specs.Within.{Within};
 
 // Where the next ruleset at or after a place starts; the file's length if there is none.
 fn next_ruleset(f: &[u8], from: usize) -> usize
@@ -81,11 +82,12 @@ pub fn find(stock: &[u8], site: &[u8], name: &[u8]) -> Found
     has_or(File::Site, site, name, in_stock)
 }
 
-// The ruleset's part of the one file or the other; empty when refused.
-pub fn ruleset_part<'a>(stock: &'a [u8], site: &'a [u8], name: &[u8]) -> &'a [u8]
-    ensures { λ r. ⌜ now r ≡ partOf (now (stock .entry)) (now (site .entry)) (found (now (stock .entry)) (now (site .entry)) (now (name .entry))) ⌝ }
+// The part of the one file or the other that was found; empty when refused.
+pub fn part_in<'a>(stock: &'a [u8], site: &'a [u8], found: Found) -> &'a [u8]
+    requires { ⌜ Within (now stock) (now site) found ⌝ }
+    ensures { λ r. ⌜ now r ≡ partOf (now (stock .entry)) (now (site .entry)) found ⌝ }
 {
-    match find(stock, site, name) {
+    match found {
         Found::At(file, s) => {
             let from = s.at;
             let to = s.end;
@@ -98,4 +100,11 @@ pub fn ruleset_part<'a>(stock: &'a [u8], site: &'a [u8], name: &[u8]) -> &'a [u8
         Found::Damaged(_, _) => &stock[0..0],
         Found::Missing => &stock[0..0],
     }
+}
+
+// The ruleset's part of the one file or the other; empty when refused.
+pub fn ruleset_part<'a>(stock: &'a [u8], site: &'a [u8], name: &[u8]) -> &'a [u8]
+    ensures { λ r. ⌜ now r ≡ partOf (now (stock .entry)) (now (site .entry)) (found (now (stock .entry)) (now (site .entry)) (now (name .entry))) ⌝ }
+{
+    part_in(stock, site, find(stock, site, name))
 }

@@ -4,3 +4,4 @@ pub mod Fronts
 pub mod Counts
 pub mod Steps
 pub mod Fine
+pub mod Found

@@ -45,7 +45,7 @@ impl Filling {
 }
 
 /// The bytes of random masks that a level knows, at its known size.
-fn level_masks(level: u64, random: &mut Random) -> Vec<u8> {
+pub fn level_masks(level: u64, random: &mut Random) -> Vec<u8> {
     let masks = masks(level.max(1), random);
     let fields = [masks.fs.0, masks.net.0, masks.scope.0];
     let mut bytes: Vec<u8> = fields.into_iter().flat_map(u64::to_le_bytes).collect();

@@ -2,12 +2,13 @@
 
 use crate::batch::Batch;
 use crate::names::component;
+use crate::policy::Wanted;
 use crate::queue::cells::QueueCells;
 use crate::queue::{answered, Request};
-use crate::refusal::{returned, Answer};
+use crate::refusal::{returned, Answer, Refusal};
 use crate::sound::check;
 use crate::state::Model;
-use crate::tables::Tables;
+use crate::tables::{encode_into, Tables};
 
 /// The byte argument of a call, if it has one.
 macro_rules! byte_argument {
@@ -206,8 +207,8 @@ impl Reply {
     }
 }
 
-/// Something that answers calls on tables of any length and contents, and keeps a queue and answers
-/// batches as the model does unless it says otherwise.
+/// Something that answers calls on tables of any length and contents, and keeps a queue, answers
+/// batches and reads policy files as the model does unless it says otherwise.
 pub trait Broker {
     fn answer(&mut self, tables: &mut Tables, call: &Call) -> Reply;
 
@@ -225,6 +226,25 @@ pub trait Broker {
     fn batch(&mut self, tables: &mut Tables, batch: &Batch) -> Reply {
         let (answer, answers) = batch.answer(check(tables).ok().as_ref());
         Reply::of(answer, answers)
+    }
+
+    /// Finds a ruleset by its name in policy files.
+    fn find_policy(&mut self, wanted: &Wanted) -> Reply {
+        let (answer, report) = wanted.find();
+        Reply::of(answer, wanted.report_of(report))
+    }
+
+    /// Opens a ruleset as policy files have it under a name.
+    fn apply_policy(&mut self, tables: &mut Tables, wanted: &Wanted) -> Reply {
+        let (answer, report) = match check(tables) {
+            Ok(mut model) => {
+                let applied = model.apply_policy(wanted);
+                encode_into(&model, tables);
+                applied
+            }
+            Err(_) => (Err(Refusal::NotSound), [0; 3]),
+        };
+        Reply::of(answer, wanted.report_of(report))
     }
 }
 

@@ -6,6 +6,7 @@ use crate::call::{Broker, Call, Reply};
 use crate::damage::{pokes, undo, Poke};
 use crate::generate::{access_request, call, every_call, Mix};
 use crate::odd::{random_cells, wrong_lengths, Odd};
+use crate::policy::{files, Wanted};
 use crate::queue::cells::{QueueCells, QueuePart};
 use crate::queue::event::{self, Event};
 use crate::queue::SLOTS;
@@ -30,6 +31,8 @@ pub enum Step {
     },
     Queue(Event),
     Batch(Batch),
+    FindPolicy(Wanted),
+    ApplyPolicy(Wanted),
 }
 
 impl Step {
@@ -39,6 +42,8 @@ impl Step {
             Step::Call(call) => Some(call.name()),
             Step::Queue(event) => event.name(),
             Step::Batch(_) => Some("batch"),
+            Step::FindPolicy(_) => Some("find_policy"),
+            Step::ApplyPolicy(_) => Some("apply_policy"),
             Step::Damage(_) | Step::Resize { .. } => None,
         }
     }
@@ -100,8 +105,8 @@ impl<B: Broker> Pair<'_, B> {
         }
     }
 
-    /// Takes a step on both sides; answers the model's answer to a call, a post, a turn or a batch, and how the
-    /// sides differ.
+    /// Takes a step on both sides; answers the model's answer to a call, a post, a turn, a batch or a name in policy
+    /// files, and how the sides differ.
     fn take(&mut self, step: &Step) -> (Option<Answer>, Option<Difference>) {
         self.steps += 1;
         match step {
@@ -122,6 +127,19 @@ impl<B: Broker> Pair<'_, B> {
             Step::Queue(event) => return self.queue_event(event),
             Step::Batch(batch) => {
                 let (answer, difference) = self.batch(batch);
+                return (Some(answer), difference);
+            }
+            Step::FindPolicy(wanted) => {
+                let broker = self.broker.find_policy(wanted);
+                let (answer, report) = wanted.find();
+                let (answer, difference) =
+                    self.compared(broker, (answer, wanted.report_of(report)));
+                return (Some(answer), difference);
+            }
+            Step::ApplyPolicy(wanted) => {
+                let broker = self.broker.apply_policy(&mut self.tables, wanted);
+                let answered = self.reference.apply_policy(wanted);
+                let (answer, difference) = self.compared(broker, answered);
                 return (Some(answer), difference);
             }
         }
@@ -227,10 +245,25 @@ pub fn sweep<B: Broker>(broker: &mut B, seed: u64, tally: &mut Tally) -> Option<
     let lengths =
         (0..=LAST_LEVEL).flat_map(|level| (0..=LONGEST).map(move |length| (level, length)));
     for (level, length) in lengths {
-        let mut session = Session::new(broker, Model::fresh(level), Mix::Every, [0; 2]);
+        let mut session = Session::new(broker, Model::fresh(level), Mix::Every, [0; 3]);
         for (filling, call) in attributes::calls(level, length, &mut random) {
             tally.count_attribute(filling, level, length);
             if session.take(tally, Step::Call(call)).is_some() {
+                return Some(session.case);
+            }
+        }
+    }
+    None
+}
+
+/// Finds and applies rulesets of policy files with every byte changed and more, at several levels; answers a case in
+/// which the sides differ.
+pub fn sweep_files<B: Broker>(broker: &mut B, tally: &mut Tally) -> Option<Case> {
+    let swept = files::sweep();
+    for (place, level) in [6, 4, 3, 1, 6].into_iter().enumerate() {
+        let mut session = Session::new(broker, files::worked_tree(level), Mix::Every, [0; 3]);
+        for wanted in swept.iter().skip(place).step_by(5) {
+            if session.files(tally, wanted).is_some() {
                 return Some(session.case);
             }
         }
@@ -254,6 +287,7 @@ pub fn compare<B: Broker>(broker: &mut B, options: &Options, tally: &mut Tally) 
         random: Random::new(options.seed),
         queue_random: Random::new(!options.seed),
         batch_random: Random::new(options.seed.rotate_left(32)),
+        policy_random: Random::new(options.seed.rotate_left(16)),
         last_call: tally.calls.saturating_add(options.calls),
         tally,
         deadline,
@@ -263,7 +297,8 @@ pub fn compare<B: Broker>(broker: &mut B, options: &Options, tally: &mut Tally) 
         let mix = run.random.pick(&[Mix::Every, Mix::Tree]);
         let queue = run.queue_random.pick(&[0, 5, 50]);
         let batch = run.batch_random.pick(&[0, 3, 20]);
-        let mut session = Session::new(broker, start, mix, [queue, batch]);
+        let policy = run.policy_random.pick(&[0, 5, 25]);
+        let mut session = Session::new(broker, start, mix, [queue, batch, policy]);
         if session.play(&mut run).is_some() {
             return Some(session.case);
         }
@@ -278,6 +313,8 @@ struct Run<'a> {
     queue_random: Random,
     /// Batches, too.
     batch_random: Random,
+    /// And policy files.
+    policy_random: Random,
     tally: &'a mut Tally,
     /// The calls counted when it ends.
     last_call: u64,
@@ -297,17 +334,20 @@ struct Session<'a, B> {
     queue: u64,
     /// The chance of a batch before the next call, in a hundred.
     batch: u64,
+    /// The chance of policy files before the next call, in a hundred.
+    policy: u64,
     pair: Pair<'a, B>,
     case: Case,
 }
 
 impl<B: Broker> Session<'_, B> {
-    fn new(broker: &mut B, start: Model, mix: Mix, chances: [u64; 2]) -> Session<'_, B> {
-        let [queue, batch] = chances;
+    fn new(broker: &mut B, start: Model, mix: Mix, chances: [u64; 3]) -> Session<'_, B> {
+        let [queue, batch, policy] = chances;
         Session {
             mix,
             queue,
             batch,
+            policy,
             pair: Pair::new(broker, &start),
             case: Case {
                 start,
@@ -372,6 +412,9 @@ impl<B: Broker> Session<'_, B> {
             (Step::Batch(batch), Some(answer)) => {
                 tally.count_batch(batch, answer, self.pair.reference.model().ok());
             }
+            (Step::FindPolicy(wanted) | Step::ApplyPolicy(wanted), Some(answer)) => {
+                tally.count_policy(step.name().unwrap_or_default(), wanted, answer);
+            }
             _ => {}
         }
         self.case.steps.push(step);
@@ -408,8 +451,46 @@ impl<B: Broker> Session<'_, B> {
         self.take(run.tally, Step::Call(call))
     }
 
-    /// A call, and perhaps a batch and things that happen to the queue before it.
+    /// Finds and applies a ruleset, and closes it again: then the tables are as before, and so is the case.
+    fn files(&mut self, tally: &mut Tally, wanted: &Wanted) -> Option<Difference> {
+        let steps = [Step::FindPolicy, Step::ApplyPolicy].map(|step| step(wanted.clone()));
+        let difference = steps.into_iter().find_map(|step| self.take(tally, step));
+        if difference.is_some() {
+            return difference;
+        }
+        let model = self.pair.reference.model().ok()?;
+        if let Some(ruleset) = model.rulesets.keys().next().copied() {
+            let close = Step::Call(Call::CloseRuleset { ruleset });
+            let difference = self.take(tally, close);
+            if difference.is_some() {
+                return difference;
+            }
+        }
+        self.pair.steps = 0;
+        self.case.steps.clear();
+        None
+    }
+
+    /// A name in policy files, found or applied.
+    fn policy(&mut self, run: &mut Run) -> Option<Difference> {
+        let model = self.pair.reference.model();
+        let model = model.unwrap_or(&self.case.start);
+        let wanted = files::wanted(model, &mut run.policy_random);
+        let step = match run.policy_random.chance(40) {
+            true => Step::FindPolicy(wanted),
+            false => Step::ApplyPolicy(wanted),
+        };
+        self.take(run.tally, step)
+    }
+
+    /// A call, and perhaps a batch, policy files and things that happen to the queue before it.
     fn random_step(&mut self, run: &mut Run) -> Option<Difference> {
+        if run.policy_random.chance(self.policy) {
+            let difference = self.policy(run);
+            if difference.is_some() {
+                return difference;
+            }
+        }
         if run.batch_random.chance(self.batch) {
             let model = self.pair.reference.model();
             let model = model.unwrap_or(&self.case.start);
@@ -509,8 +590,8 @@ impl<B: Broker> Session<'_, B> {
             .or_else(|| (0..5).find_map(|_| self.random_step(run)))
     }
 
-    /// Posts a request, takes a turn, asks a batch and makes every call once, with arguments for tables that show a
-    /// model.
+    /// Posts a request, takes a turn, asks a batch, finds and applies a ruleset of policy files and makes every call
+    /// once, with arguments for tables that show a model.
     fn every_call(&mut self, run: &mut Run, model: &Model, odds: &[Odd]) -> Option<Difference> {
         let post = Event::Post {
             slot: run.queue_random.below(SLOTS as u64),
@@ -518,8 +599,11 @@ impl<B: Broker> Session<'_, B> {
         };
         let events = [post, Event::Turn].map(Step::Queue).into_iter();
         let batch = Step::Batch(asked::batch(model, &mut run.batch_random));
+        let wanted = files::wanted(model, &mut run.policy_random);
+        let policies = [Step::FindPolicy(wanted.clone()), Step::ApplyPolicy(wanted)];
         let calls = every_call(model, &mut run.random).into_iter();
-        let mut steps = events.chain([batch]).chain(calls.map(Step::Call));
+        let calls = policies.into_iter().chain(calls.map(Step::Call));
+        let mut steps = events.chain([batch]).chain(calls);
         steps.find_map(|step| {
             run.tally.count_odd(odds, &step);
             self.take(run.tally, step)

@@ -2,6 +2,7 @@
 
 use crate::batch::Batch;
 use crate::call::{Broker, Call, Reply};
+use crate::policy::Wanted;
 use crate::queue::cells::QueueCells;
 use crate::queue::Request;
 use crate::reference::Rereading;
@@ -35,6 +36,21 @@ impl Broker for Core {
         let mut report = batch.answers.clone();
         let tables = shared_cells(tables);
         let number = skeinrabbit_sys::batch(tables, &batch.requests, &batch.names, &mut report);
+        Reply { number, report }
+    }
+
+    fn find_policy(&mut self, wanted: &Wanted) -> Reply {
+        let mut report = wanted.unwritten_report();
+        let [stock, site] = &wanted.files;
+        let number = skeinrabbit_sys::find_policy(stock, site, &wanted.name, &mut report);
+        Reply { number, report }
+    }
+
+    fn apply_policy(&mut self, tables: &mut Tables, wanted: &Wanted) -> Reply {
+        let mut report = wanted.unwritten_report();
+        let [stock, site] = &wanted.files;
+        let tables = &mut cells(tables);
+        let number = skeinrabbit_sys::apply_policy(tables, stock, site, &wanted.name, &mut report);
         Reply { number, report }
     }
 }
@@ -87,6 +103,25 @@ impl Broker for Both {
         let core = Core.batch(tables, batch);
         assert_eq!(core, model, "core and model answer differently: {batch:?}");
         assert!(*tables == before, "cells change: {batch:?}");
+        core
+    }
+
+    fn find_policy(&mut self, wanted: &Wanted) -> Reply {
+        let model = Rereading.find_policy(wanted);
+        let core = Core.find_policy(wanted);
+        assert_eq!(core, model, "core and model answer differently: {wanted:?}");
+        core
+    }
+
+    fn apply_policy(&mut self, tables: &mut Tables, wanted: &Wanted) -> Reply {
+        let mut by_model = tables.clone();
+        let model = Rereading.apply_policy(&mut by_model, wanted);
+        let core = Core.apply_policy(tables, wanted);
+        assert_eq!(core, model, "core and model answer differently: {wanted:?}");
+        assert!(
+            *tables == by_model,
+            "core and model leave other cells: {wanted:?}"
+        );
         core
     }
 }

@@ -4,6 +4,7 @@ use crate::batch::Batch;
 use crate::call::{Broker, Call, Reply};
 use crate::compare::Step;
 use crate::damage::Poke;
+use crate::policy::Wanted;
 use crate::queue::answered;
 use crate::queue::cells::QueueCells;
 use crate::queue::event::Event;
@@ -47,7 +48,8 @@ impl Reference {
             Step::Damage(pokes) => self.damage(pokes),
             Step::Resize { table, length } => self.resize(*table, *length),
             Step::Queue(event) => drop(self.queue_event(event)),
-            Step::Batch(_) => {}
+            Step::Batch(_) | Step::FindPolicy(_) => {}
+            Step::ApplyPolicy(wanted) => drop(self.apply_policy(wanted)),
         }
     }
 
@@ -89,6 +91,18 @@ impl Reference {
     /// What a batch answers, and every cell for its answers.
     pub fn batch(&self, batch: &Batch) -> (Answer, Vec<u64>) {
         batch.answer(self.model.as_ref().ok())
+    }
+
+    /// What applying a ruleset of policy files answers, and every cell of its report.
+    pub fn apply_policy(&mut self, wanted: &Wanted) -> (Answer, Vec<u64>) {
+        let (answer, report) = match &mut self.model {
+            Ok(model) => model.apply_policy(wanted),
+            Err(_) => (Err(Refusal::NotSound), [0; 3]),
+        };
+        if let Ok(model) = &self.model {
+            encode_into(model, &mut self.tables);
+        }
+        (answer, wanted.report_of(report))
     }
 
     /// Answers a call and writes every cell anew.

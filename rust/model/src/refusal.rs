@@ -23,11 +23,12 @@ pub enum Errno {
     ENAMETOOLONG = 36,
     ENOTEMPTY = 39,
     ENOMSG = 42,
+    EBADMSG = 74,
     EOPNOTSUPP = 95,
 }
 
 impl Errno {
-    pub const ALL: [Errno; 21] = [
+    pub const ALL: [Errno; 22] = [
         Errno::EPERM,
         Errno::ENOENT,
         Errno::ESRCH,
@@ -48,6 +49,7 @@ impl Errno {
         Errno::ENAMETOOLONG,
         Errno::ENOTEMPTY,
         Errno::ENOMSG,
+        Errno::EBADMSG,
         Errno::EOPNOTSUPP,
     ];
 
@@ -169,6 +171,29 @@ refusals! {
     TooFewAnswers EINVAL;
     /// The name of a request is no part of the names.
     NameOutside EINVAL;
+    /// A policy file of more than 32,768 bytes.
+    FileTooLong E2BIG;
+    /// One or two bytes at the end of a policy file.
+    StrayBytes EBADMSG;
+    /// A field whose value goes past the end of the file.
+    ValuePastEnd EBADMSG;
+    /// A field before the first ruleset.
+    NoRulesetYet EBADMSG;
+    RulesetWithoutName EBADMSG;
+    RulesetNameTooLong EBADMSG;
+    RulesetTwice EBADMSG;
+    /// The file ends after a ruleset's name.
+    MasksMissing EBADMSG;
+    /// Another field stands where a ruleset's masks must.
+    NotMasks EBADMSG;
+    MasksSize EBADMSG;
+    /// Masks that no name stands before.
+    MasksAgain EBADMSG;
+    PathRuleTooShort EBADMSG;
+    PortRuleSize EBADMSG;
+    UnknownTag EBADMSG;
+    /// Neither policy file has a ruleset of the name.
+    NoSuchRuleset ENOENT;
 }
 
 /// The number a call succeeds with, or why it is refused.

@@ -4,6 +4,7 @@ use crate::batch::{Asked, Batch};
 use crate::call::{Call, Reply, UNWRITTEN};
 use crate::compare::{Case, Difference, Step};
 use crate::damage::Poke;
+use crate::policy::{File, NotFound, Wanted};
 use crate::queue::event::Event;
 use crate::queue::{Request, IDLE};
 use crate::reference::Reference;
@@ -52,7 +53,48 @@ fn step_lines(step: &Step, reference: &mut Reference) -> Vec<String> {
         }
         Step::Queue(event) => vec![event_line(event, reference)],
         Step::Batch(batch) => batch_lines(batch, reference),
+        Step::FindPolicy(wanted) => {
+            let (answer, _) = wanted.find();
+            policy_lines("find_policy", wanted, answer, &answer_word(answer))
+        }
+        Step::ApplyPolicy(wanted) => {
+            let (answer, _) = reference.apply_policy(wanted);
+            let word = match answer {
+                Ok(number) => format!("new {number}"),
+                Err(_) => answer_word(answer),
+            };
+            policy_lines("apply_policy", wanted, answer, &word)
+        }
     }
+}
+
+/// The lines of a name that is asked for in policy files.
+fn policy_lines(call: &str, wanted: &Wanted, answer: Answer, word: &str) -> Vec<String> {
+    let length = wanted.report;
+    let other = length != 3;
+    let report = other.then(|| format!("# the report of this call has {length} cells"));
+    let files = wanted.files.each_ref().map(|file| match file.len() {
+        0 => "none".to_string(),
+        _ => format!("bytes={}", text_word(file)),
+    });
+    let said = match (answer, wanted.found()) {
+        (Ok(_), Ok((file, ruleset))) => Some((file, ruleset.part.start, ruleset.part.len())),
+        (
+            Err(refusal),
+            Err(NotFound {
+                refusal: of_files,
+                fault,
+            }),
+        ) if refusal == of_files => fault.map(|(file, place)| (file, place, 0)),
+        _ => None,
+    };
+    let (file, place, length) = said.unwrap_or((File::Stock, 0, 0));
+    let file = said.map_or("none", |_| file.name());
+    let [stock, site] = files;
+    let name = text_word(&wanted.name);
+    let line =
+        format!("{call} {stock} {site} {name} => {word} file={file} place={place} length={length}");
+    report.into_iter().chain([line]).collect()
 }
 
 /// The lines of a batch: each request with the model's answer, or why they are refused.

@@ -5,6 +5,8 @@ use crate::call::{Broker, Call};
 use crate::compare::{first_difference, Case, Difference, Step};
 use crate::damage::Poke;
 use crate::names::Name;
+use crate::policy::files::places;
+use crate::policy::Wanted;
 use crate::queue::event::Event;
 use crate::queue::Request;
 use crate::reference::Reference;
@@ -156,6 +158,14 @@ impl<B: Broker> Shrinker<'_, B> {
                 Step::Call(call) => simpler_calls(call).into_iter().map(Step::Call).collect(),
                 Step::Queue(event) => simpler_events(event),
                 Step::Batch(batch) => simpler_batches(batch),
+                Step::FindPolicy(wanted) => {
+                    let simpler = simpler_files(wanted).into_iter();
+                    simpler.map(Step::FindPolicy).collect()
+                }
+                Step::ApplyPolicy(wanted) => {
+                    let simpler = simpler_files(wanted).into_iter();
+                    simpler.map(Step::ApplyPolicy).collect()
+                }
                 _ => Vec::new(),
             };
             let taken = simpler.into_iter().any(|step| {
@@ -274,6 +284,45 @@ fn simpler_batches(batch: &Batch) -> Vec<Step> {
     });
     let simpler = fewer.chain(room).chain(cut).chain(cells);
     simpler.map(Step::Batch).collect()
+}
+
+/// Policy files without one of them, without fields or the last byte, with a shorter value in a field, or a report with
+/// fewer cells.
+fn simpler_files(wanted: &Wanted) -> Vec<Wanted> {
+    let mut simpler = Vec::new();
+    let mut with = |number: usize, file: Vec<u8>| {
+        let mut wanted = wanted.clone();
+        wanted.files[number] = file;
+        simpler.push(wanted);
+    };
+    for (number, file) in wanted.files.iter().enumerate() {
+        with(number, Vec::new());
+        let fields = places(file);
+        // A ruleset without its rules has two.
+        for count in [fields.len() / 2, fields.len() / 4, 2, 1] {
+            for range in fields.windows(count + 1) {
+                let (start, end) = (range[0], range[count]);
+                with(number, [&file[..start], &file[end..]].concat());
+            }
+        }
+        for pair in places(file).windows(2) {
+            let value = &file[pair[0] + 3..pair[1]];
+            for length in smaller(value.len() as u64) {
+                let length = length as usize;
+                let bytes = (length as u16).to_le_bytes();
+                let (before, after) = (&file[..=pair[0]], &file[pair[1]..]);
+                with(number, [before, &bytes, &value[..length], after].concat());
+            }
+        }
+        if let [shorter @ .., _] = file.as_slice() {
+            with(number, shorter.to_vec());
+        }
+    }
+    simpler.extend(smaller(wanted.report).map(|report| Wanted {
+        report,
+        ..wanted.clone()
+    }));
+    simpler
 }
 
 /// A batch without a byte of its names; the names of requests are the same parts, without it.

@@ -5,6 +5,7 @@ use crate::batch::{Batch, Sort, ANSWER};
 use crate::call::Call;
 use crate::compare::Step;
 use crate::odd::Odd;
+use crate::policy::{File, Wanted};
 use crate::queue::event::Event;
 use crate::queue::IDLE;
 use crate::refusal::{Answer, Refusal};
@@ -16,7 +17,7 @@ use std::fmt;
 use Refusal::*;
 
 /// The refusals of each call, after the one for tables that aren't sound.
-const REFUSALS: [(&str, &[Refusal]); 25] = [
+const REFUSALS: [(&str, &[Refusal]); 27] = [
     ("fresh", &[WrongLength, UnknownLevel]),
     (
         "create_ruleset",
@@ -213,6 +214,49 @@ const REFUSALS: [(&str, &[Refusal]); 25] = [
     ),
     ("turn", &[CursorPastEnd, NotEightSlots, UnknownState]),
     ("batch", &[RaggedRequests, UnknownSort, TooFewAnswers]),
+    ("find_policy", &[NoSuchRuleset]),
+    (
+        "apply_policy",
+        &[
+            NoSuchRuleset,
+            Disabled,
+            BytePastKnownSize,
+            UnknownBit,
+            NothingHandled,
+            NoFreeRuleset,
+            EmptyPath,
+            PathTooLong,
+            RelativePath,
+            PathWithZero,
+            AfterNonDirectory,
+            SlashAfterNonDirectory,
+            ComponentTooLong,
+            NoSuchName,
+            NoRights,
+            RightsNotHandled,
+            SweepingRule,
+            RightsNotForFile,
+            RulesetFull,
+        ],
+    ),
+];
+
+/// What may be wrong with a policy file.
+const FAULTS: [Refusal; 14] = [
+    FileTooLong,
+    StrayBytes,
+    ValuePastEnd,
+    NoRulesetYet,
+    RulesetWithoutName,
+    RulesetNameTooLong,
+    RulesetTwice,
+    MasksMissing,
+    NotMasks,
+    MasksSize,
+    MasksAgain,
+    PathRuleTooShort,
+    PortRuleSize,
+    UnknownTag,
 ];
 
 /// The refusals that come after the verdict.
@@ -224,16 +268,19 @@ const LATER: [Refusal; 4] = [
 ];
 
 /// The calls that tables which aren't sound don't refuse so.
-const WITHOUT_SOUNDNESS: [&str; 5] = ["fresh", "component", "post", "turn", "batch"];
+const WITHOUT_SOUNDNESS: [&str; 6] = ["fresh", "component", "post", "turn", "batch", "find_policy"];
 
-/// The names of posts, turns and batches.
-const EVENTS: [&str; 3] = ["post", "turn", "batch"];
+/// The names of posts, turns, batches and policy files.
+const EVENTS: [&str; 5] = ["post", "turn", "batch", "find_policy", "apply_policy"];
 
 /// The lengths of reports, in cells, that are to be met with every answer that says something.
 const REPORTS: [u64; 5] = [0, 1, 2, 3, 5];
 
 /// A call with a report: its name, the length of the report, why it was refused.
 type Report = (&'static str, u64, Option<Refusal>);
+
+/// A call on policy files, one of them, and its fault.
+type Faulty = (&'static str, File, Refusal);
 
 /// A request of a batch that was answered so; or 0, although its call is refused so after the verdict.
 #[derive(Clone, Copy, PartialEq, Eq, PartialOrd, Ord)]
@@ -258,6 +305,8 @@ pub struct Tally {
     asked: BTreeMap<(Sort, AskedAnswer), u64>,
     /// Batches by what is said of their lists.
     lists: BTreeMap<Lists, u64>,
+    /// Policy files with a fault, by the call that met it.
+    faults: BTreeMap<Faulty, u64>,
     /// Calls with a report by its length.
     reports: BTreeMap<Report, u64>,
     damages: BTreeMap<Unsound, u64>,
@@ -314,6 +363,19 @@ impl Tally {
         }
     }
 
+    /// Counts a name that was asked for in policy files.
+    pub fn count_policy(&mut self, call: &'static str, wanted: &Wanted, answer: Answer) {
+        self.calls += 1;
+        let refusal = answer.err();
+        *self.answers.entry((call, refusal)).or_default() += 1;
+        let report = (call, wanted.report, refusal);
+        *self.reports.entry(report).or_default() += 1;
+        let fault = wanted.found().err().and_then(|missing| missing.fault);
+        if let (Some(why), Some((file, _))) = (refusal.filter(|why| FAULTS.contains(why)), fault) {
+            *self.faults.entry((call, file, why)).or_default() += 1;
+        }
+    }
+
     /// Counts a step on odd tables.
     pub fn count_odd(&mut self, odds: &[Odd], step: &Step) {
         let Some(name) = step.name() else {
@@ -365,8 +427,10 @@ impl Tally {
         let asked = asked().filter(|asked| !self.asked.contains_key(asked));
         let lists = Lists::ALL.iter();
         let lists = lists.filter(|lists| !self.lists.contains_key(lists));
+        let faults = faults().filter(|faulty| !self.faults.contains_key(faulty));
         let lines = refusals.map(|(call, refusal)| format!("{call} {}", refusal_text(refusal)));
         lines
+            .chain(faults.map(|faulty| fault_text(&faulty)))
             .chain(served.map(|answer| format!("turn that serves, {}", answer_text(answer))))
             .chain(idle)
             .chain(asked.map(|asked| format!("request of a batch, {}", asked_text(asked))))
@@ -404,22 +468,39 @@ fn refusals() -> impl Iterator<Item = (&'static str, Refusal)> {
 /// Each call with a report, with each length and each answer that the report depends on: a success,
 /// a refusal by the verdict, tables that aren't sound.
 fn reports() -> impl Iterator<Item = Report> {
-    const SAID: [Refusal; 5] = [
+    const SAID: [Refusal; 7] = [
         LayerNotInUse,
         AccessDenied,
         ReferDenied,
         NotContained,
         OtherNotContained,
+        NoSuchRuleset,
+        NoSuchName,
     ];
     let reporting = REFUSALS.iter().filter(|(call, refusals)| {
-        ["layer_rules", "component"].contains(call) || refusals.contains(&AccessDenied)
+        let saying = ["layer_rules", "component", "find_policy", "apply_policy"];
+        saying.contains(call) || refusals.contains(&AccessDenied)
     });
     reporting.flat_map(|(call, refusals)| {
         let unsound = (!WITHOUT_SOUNDNESS.contains(call)).then_some(NotSound);
         let refused = refusals.iter().filter(|refusal| SAID.contains(refusal));
-        let answers = refused.copied().chain(unsound).map(Some).chain([None]);
+        let of_files = refusals.contains(&NoSuchRuleset);
+        let of_files = of_files.then_some([FileTooLong, UnknownTag]);
+        let refused = refused.copied().chain(of_files.into_iter().flatten());
+        let answers = refused.chain(unsound).map(Some).chain([None]);
         answers.flat_map(|answer| REPORTS.map(|length| (*call, length, answer)))
     })
+}
+
+/// Each call on policy files with each fault of each file.
+fn faults() -> impl Iterator<Item = Faulty> {
+    let calls = ["find_policy", "apply_policy"].into_iter();
+    let files = calls.flat_map(|call| File::BOTH.map(|file| (call, file)));
+    files.flat_map(|(call, file)| FAULTS.map(|fault| (call, file, fault)))
+}
+
+fn fault_text((call, file, fault): &Faulty) -> String {
+    format!("{call}, {}: {}", file.name(), refusal_text(*fault))
 }
 
 /// Each sort of odd tables with each call.
@@ -476,7 +557,7 @@ fn asked_text((sort, answer): (Sort, AskedAnswer)) -> String {
     format!("{} {answer}", sort.name())
 }
 
-/// The names of all calls, of posts, turns and batches.
+/// The names of all calls, of posts, turns, batches and policy files.
 fn names() -> impl Iterator<Item = &'static str> {
     Call::NAMES.iter().copied().chain(EVENTS)
 }
@@ -505,6 +586,7 @@ impl fmt::Display for Tally {
         self.write_answers(f)?;
         self.write_served(f)?;
         self.write_asked(f)?;
+        self.write_faults(f)?;
         self.write_reports(f)?;
         writeln!(
             f,
@@ -557,6 +639,14 @@ impl Tally {
         writeln!(f, "answers of batches to requests:")?;
         for (asked, count) in &self.asked {
             writeln!(f, "    {} {count}", asked_text(*asked))?;
+        }
+        Ok(())
+    }
+
+    fn write_faults(&self, f: &mut fmt::Formatter) -> fmt::Result {
+        writeln!(f, "policy files with a fault:")?;
+        for (faulty, count) in &self.faults {
+            writeln!(f, "    {} {count}", fault_text(faulty))?;
         }
         Ok(())
     }

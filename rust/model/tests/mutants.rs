@@ -2,11 +2,13 @@
 
 use model::batch::{Asked, Batch, Sort, ANSWER, REQUEST};
 use model::call::{Broker, Call, Reply, UNWRITTEN};
-use model::compare::{compare, sweep, Case, Difference, Options, Step};
+use model::compare::{compare, sweep, sweep_files, Case, Difference, Options, Step};
 use model::denial::Denial;
 use model::judge::Move;
 use model::long_run::long_run;
 use model::names::component;
+use model::policy::read::{rulesets_of, Rule, Written};
+use model::policy::{Wanted, LONGEST_FILE};
 use model::queue::cells::{QueueCells, QueuePart};
 use model::queue::event::Event;
 use model::queue::{answered, Queue, Request, SlotAnswer, State, IDLE, SLOTS};
@@ -2424,6 +2426,405 @@ fn a_name_outside_that_is_tested_first_is_found() {
     assert!(!text.contains("=> EINVAL"), "{text}");
 }
 
+/// Reads policy files otherwise than the model.
+struct Reading<F>(F);
+
+impl<F: Fn(&Wanted) -> (Answer, [u64; 3])> Broker for Reading<F> {
+    fn answer(&mut self, tables: &mut Tables, call: &Call) -> Reply {
+        Rereading.answer(tables, call)
+    }
+
+    fn find_policy(&mut self, wanted: &Wanted) -> Reply {
+        let (answer, report) = (self.0)(wanted);
+        Reply::of(answer, wanted.report_of(report))
+    }
+}
+
+/// A wrong reader: found among swept files, in a case of one step. What the sides answer there.
+fn found_reading(fault: impl Fn(&Wanted) -> (Answer, [u64; 3])) -> (Wanted, [Reply; 2]) {
+    let mut broker = Reading(fault);
+    let case = sweep_files(&mut broker, &mut Tally::default());
+    found_in_files(&mut broker, case)
+}
+
+/// The files of a case that is one search, when it is short, and what the sides answer.
+fn found_in_files<B: Broker>(broker: &mut B, case: Option<Case>) -> (Wanted, [Reply; 2]) {
+    let (case, difference) = shortened(broker, case);
+    let text = scenario(&case, &difference);
+    let [Step::FindPolicy(wanted)] = case.steps.as_slice() else {
+        panic!("{text}");
+    };
+    (wanted.clone(), [difference.broker, difference.model])
+}
+
+/// A wrong reader, which answers and is to be answered with these numbers.
+fn found_reading_of(fault: impl Fn(&Wanted) -> (Answer, [u64; 3]), numbers: [u64; 2]) -> Wanted {
+    let (wanted, replies) = found_reading(fault);
+    assert_eq!(replies.map(|reply| reply.number), numbers, "{wanted:?}");
+    wanted
+}
+
+/// A file without its fault's reason, as a reader takes it that does not test for it; what is found there.
+fn found_without(wanted: &Wanted, why: Refusal) -> Option<(Answer, [u64; 3])> {
+    let missing = wanted.found().err()?;
+    (missing.refusal == why).then_some((Ok(0), [0; 3]))
+}
+
+const EBADMSG: u64 = Errno::EBADMSG.returned();
+
+#[test]
+fn places_of_other_fields_are_found() {
+    // The ruleset that a fault is in.
+    let enclosing = |wanted: &Wanted| {
+        let (answer, [file, place, length]) = wanted.find();
+        if returned(answer) != EBADMSG {
+            return (answer, [file, place, length]);
+        }
+        let bytes = &wanted.files[file as usize];
+        let places = model::policy::files::places(bytes);
+        let before = places.into_iter().filter(|at| *at as u64 <= place);
+        let opening = before.filter(|at| bytes.get(*at) == Some(&1)).last();
+        (answer, [file, opening.unwrap_or(0) as u64, 0])
+    };
+    found_reading_of(enclosing, [EBADMSG; 2]);
+    // Among random files, too.
+    let (case, difference) = found(&mut Reading(enclosing));
+    assert_eq!(case.steps.len(), 1, "{}", scenario(&case, &difference));
+    // A name whose masks are missing at the end.
+    let name = |wanted: &Wanted| {
+        let (answer, [file, place, length]) = wanted.find();
+        match answer {
+            Err(Refusal::MasksMissing) => {
+                let bytes = &wanted.files[file as usize];
+                let places = model::policy::files::places(bytes);
+                (answer, [file, places[places.len() - 2] as u64, 0])
+            }
+            _ => (answer, [file, place, length]),
+        }
+    };
+    found_reading_of(name, [EBADMSG; 2]);
+    // The end of the file in place of stray bytes there, and of a name that is taken at the end.
+    for why in [Refusal::StrayBytes, Refusal::RulesetTwice] {
+        let end = |wanted: &Wanted| match wanted.find() {
+            (Err(refusal), [file, place, _]) if refusal == why => {
+                let length = wanted.files[file as usize].len() as u64;
+                let last = length - place < 36;
+                (Err(refusal), [file, if last { length } else { place }, 0])
+            }
+            found => found,
+        };
+        found_reading_of(end, [EBADMSG; 2]);
+    }
+}
+
+#[test]
+fn files_in_another_order_are_found() {
+    let swapped = |wanted: &Wanted| {
+        let [stock, site] = wanted.files.clone();
+        Wanted {
+            files: [site, stock],
+            ..wanted.clone()
+        }
+    };
+    let of_other = |(answer, [file, place, length]): (Answer, [u64; 3])| {
+        let file = if length == 0 && answer == Err(Refusal::NoSuchRuleset) {
+            file
+        } else {
+            1 - file
+        };
+        (answer, [file, place, length])
+    };
+    // The stock's ruleset wins.
+    let stock_wins = |wanted: &Wanted| match (wanted.find(), of_other(swapped(wanted).find())) {
+        ((Ok(0), _), (Ok(0), other)) => (Ok(0), other),
+        (right, _) => right,
+    };
+    found_reading_of(stock_wins, [0, 0]);
+    // The site's damage is reported first.
+    let site_first = |wanted: &Wanted| match (wanted.find(), of_other(swapped(wanted).find())) {
+        ((Err(right), _), other) if right != Refusal::NoSuchRuleset => other,
+        (right, _) => right,
+    };
+    found_reading(site_first);
+    // A ruleset of the stock file is found before the site file is read.
+    let unread = |wanted: &Wanted| {
+        let stock_alone = Wanted {
+            files: [wanted.files[0].clone(), Vec::new()],
+            ..wanted.clone()
+        };
+        match (wanted.find(), stock_alone.find()) {
+            ((Err(_), _), (Ok(0), found)) => (Ok(0), found),
+            (right, _) => right,
+        }
+    };
+    found_reading(unread);
+}
+
+#[test]
+fn faults_that_are_not_tested_are_found() {
+    use Refusal::*;
+    for why in [
+        FileTooLong,
+        StrayBytes,
+        ValuePastEnd,
+        NoRulesetYet,
+        RulesetWithoutName,
+        RulesetNameTooLong,
+        RulesetTwice,
+        MasksMissing,
+        NotMasks,
+        MasksSize,
+        MasksAgain,
+        PathRuleTooShort,
+        PortRuleSize,
+        UnknownTag,
+    ] {
+        let untested = |wanted: &Wanted| found_without(wanted, why).unwrap_or(wanted.find());
+        let wanted = found_reading_of(untested, [0, why.errno().returned()]);
+        let longest = wanted.files.iter().map(Vec::len).max();
+        assert!(
+            why == FileTooLong || longest <= Some(100),
+            "{why:?}: {wanted:?}"
+        );
+    }
+}
+
+#[test]
+fn other_limits_of_files_are_found() {
+    let shorter = |wanted: &Wanted| {
+        let long = wanted
+            .files
+            .iter()
+            .position(|file| file.len() >= LONGEST_FILE);
+        match (wanted.find(), long) {
+            ((Ok(0), _), Some(file)) => (Err(Refusal::FileTooLong), [file as u64, 0, 0]),
+            (right, _) => right,
+        }
+    };
+    found_reading_of(shorter, [Errno::E2BIG.returned(), 0]);
+    let short_names = |wanted: &Wanted| match wanted.name.len() {
+        32 => (Err(Refusal::NoSuchRuleset), [0; 3]),
+        _ => wanted.find(),
+    };
+    found_reading(short_names);
+    let no_path = |wanted: &Wanted| match wanted.found() {
+        Ok((file, Written { rules, .. }))
+            if rules
+                .iter()
+                .any(|rule| matches!(rule, Rule::Path { path, .. } if path.is_empty())) =>
+        {
+            (Err(Refusal::PathRuleTooShort), [file as u64, 0, 0])
+        }
+        _ => wanted.find(),
+    };
+    found_reading_of(no_path, [EBADMSG, 0]);
+}
+
+#[test]
+fn parts_of_other_lengths_are_found() {
+    // Up to the rules; to the end of the file; with the next ruleset.
+    let up_to_rules = |wanted: &Wanted| match wanted.found() {
+        Ok((file, ruleset)) => {
+            let length = 3 + ruleset.name.len() + 27;
+            (
+                Ok(0),
+                [file as u64, ruleset.part.start as u64, length as u64],
+            )
+        }
+        Err(_) => wanted.find(),
+    };
+    found_reading_of(up_to_rules, [0, 0]);
+    let to_the_end = |wanted: &Wanted| match wanted.found() {
+        Ok((file, ruleset)) => {
+            let length = wanted.files[file as usize].len() - ruleset.part.start;
+            (
+                Ok(0),
+                [file as u64, ruleset.part.start as u64, length as u64],
+            )
+        }
+        Err(_) => wanted.find(),
+    };
+    found_reading_of(to_the_end, [0, 0]);
+    // A name that begins as the one that is asked for.
+    let prefix = |wanted: &Wanted| {
+        let rulesets = rulesets_of(&wanted.files[0]).unwrap_or_default();
+        let like = rulesets
+            .iter()
+            .find(|ruleset| ruleset.name.starts_with(&wanted.name));
+        match (wanted.find(), like) {
+            ((Err(Refusal::NoSuchRuleset), _), Some(like)) => {
+                (Ok(0), [0, like.part.start as u64, like.part.len() as u64])
+            }
+            (right, _) => right,
+        }
+    };
+    found_reading_of(prefix, [0, Errno::ENOENT.returned()]);
+}
+
+/// Applies rulesets of policy files otherwise than the model, where these find one.
+struct Applying<F>(F);
+
+impl<F: Fn(&mut Model, &Wanted, &Written) -> (Answer, [u64; 3])> Broker for Applying<F> {
+    fn answer(&mut self, tables: &mut Tables, call: &Call) -> Reply {
+        Rereading.answer(tables, call)
+    }
+
+    fn apply_policy(&mut self, tables: &mut Tables, wanted: &Wanted) -> Reply {
+        let (Ok(mut model), Ok((_, ruleset))) = (check(tables), wanted.found()) else {
+            return Rereading.apply_policy(tables, wanted);
+        };
+        let (answer, report) = (self.0)(&mut model, wanted, &ruleset);
+        encode_into(&model, tables);
+        Reply::of(answer, wanted.report_of(report))
+    }
+}
+
+/// A wrong application, which ends with one; how many cells differ, and what the sides answer.
+fn found_applying(
+    fault: impl Fn(&mut Model, &Wanted, &Written) -> (Answer, [u64; 3]),
+) -> (usize, [u64; 2]) {
+    let (case, difference) = found(&mut Applying(fault));
+    let text = scenario(&case, &difference);
+    let last = case.steps.last();
+    assert!(matches!(last, Some(Step::ApplyPolicy(_))), "{text}");
+    assert!(is_short(&case), "{text}");
+    let numbers = [difference.broker.number, difference.model.number];
+    (difference.cells.len(), numbers)
+}
+
+#[test]
+fn a_ruleset_that_is_left_open_is_found() {
+    let left_open = |model: &mut Model, wanted: &Wanted, ruleset: &Written| {
+        let (answer, report) = model.apply_policy(wanted);
+        if answer.is_err() {
+            // Its create is refused where that was the reason.
+            let _ = model.create_ruleset(&ruleset.masks, 0);
+        }
+        (answer, report)
+    };
+    let (cells, [broker, model]) = found_applying(left_open);
+    assert!(cells > 0 && broker == model);
+}
+
+#[test]
+fn a_refused_rule_that_is_passed_over_is_found() {
+    let passed_over = |model: &mut Model, wanted: &Wanted, ruleset: &Written| {
+        let mut after = model.clone();
+        let Ok(number) = after.create_ruleset(&ruleset.masks, 0) else {
+            return model.apply_policy(wanted);
+        };
+        for rule in &ruleset.rules {
+            let _ = match rule {
+                Rule::Path { rights, path } => after
+                    .lookup(path)
+                    .and_then(|entry| after.add_path_rule(number, entry, *rights, 0)),
+                Rule::Port { rights, port } => after.add_port_rule(number, *port, *rights, 0),
+            };
+        }
+        *model = after;
+        (Ok(number), wanted.find().1)
+    };
+    let (_, [broker, model]) = found_applying(passed_over);
+    assert!(broker < 16 && model > 16);
+}
+
+/// The first refusal of calls in an order of their own; else the right answer.
+fn refused_first(
+    model: &mut Model,
+    wanted: &Wanted,
+    refusals: impl IntoIterator<Item = Refusal>,
+) -> (Answer, [u64; 3]) {
+    match (
+        model.clone().apply_policy(wanted).0,
+        refusals.into_iter().next(),
+    ) {
+        (Err(_), Some(refusal)) => (Err(refusal), [0; 3]),
+        _ => model.apply_policy(wanted),
+    }
+}
+
+#[test]
+fn calls_in_another_order_are_found() {
+    // All paths are looked up before a rule is added.
+    let lookups_first = |model: &mut Model, wanted: &Wanted, ruleset: &Written| {
+        let before = model.clone();
+        let refused = ruleset.rules.iter().filter_map(|rule| match rule {
+            Rule::Path { path, .. } => before.lookup(path).err(),
+            Rule::Port { .. } => None,
+        });
+        let created = model.clone().create_ruleset(&ruleset.masks, 0);
+        refused_first(model, wanted, created.err().into_iter().chain(refused))
+    };
+    found_applying(lookups_first);
+    // Empty rights are refused before the path is looked up.
+    let rights_first = |model: &mut Model, wanted: &Wanted, ruleset: &Written| {
+        let first = ruleset.rules.first();
+        let empty = matches!(first, Some(Rule::Path { rights: 0, .. }));
+        let created = model.clone().create_ruleset(&ruleset.masks, 0);
+        let refused = empty.then_some(Refusal::NoRights);
+        refused_first(model, wanted, created.err().into_iter().chain(refused))
+    };
+    let (cells, numbers) = found_applying(rights_first);
+    assert_eq!((cells, numbers[0]), (0, Errno::ENOMSG.returned()));
+    // Ports before paths.
+    let ports_first = |model: &mut Model, wanted: &Wanted, ruleset: &Written| {
+        let mut sorted = ruleset.rules.clone();
+        sorted.sort_by_key(|rule| matches!(rule, Rule::Path { .. }));
+        let mut after = model.clone();
+        let Ok(number) = after.create_ruleset(&ruleset.masks, 0) else {
+            return model.apply_policy(wanted);
+        };
+        for rule in &sorted {
+            let added = match rule {
+                Rule::Path { rights, path } => after
+                    .lookup(path)
+                    .and_then(|entry| after.add_path_rule(number, entry, *rights, 0)),
+                Rule::Port { rights, port } => after.add_port_rule(number, *port, *rights, 0),
+            };
+            if let Err(refusal) = added {
+                return (Err(refusal), [0; 3]);
+            }
+        }
+        *model = after;
+        (Ok(number), wanted.find().1)
+    };
+    found_applying(ports_first);
+}
+
+#[test]
+fn reports_of_refused_applications_are_found() {
+    let reported = |model: &mut Model, wanted: &Wanted, _: &Written| {
+        let (answer, _) = model.apply_policy(wanted);
+        (answer, wanted.find().1)
+    };
+    let (cells, [broker, model]) = found_applying(reported);
+    assert!(cells == 0 && broker == model);
+}
+
+/// Reads the files before it tests the tables.
+struct FilesFirst;
+
+impl Broker for FilesFirst {
+    fn answer(&mut self, tables: &mut Tables, call: &Call) -> Reply {
+        Rereading.answer(tables, call)
+    }
+
+    fn apply_policy(&mut self, tables: &mut Tables, wanted: &Wanted) -> Reply {
+        match wanted.find() {
+            (Err(refusal), report) => Reply::of(Err(refusal), wanted.report_of(report)),
+            _ => Rereading.apply_policy(tables, wanted),
+        }
+    }
+}
+
+#[test]
+fn files_before_soundness_are_found() {
+    let (case, difference) = found(&mut FilesFirst);
+    let text = scenario(&case, &difference);
+    assert_eq!(difference.model.number, Errno::EIO.returned(), "{text}");
+    assert!(case.steps.len() <= 2, "{text}");
+}
+
 /// Looks at the first bytes of an attribute alone.
 struct FirstBytes;
 
@@ -2468,4 +2869,11 @@ fn the_sweep_meets_every_length() {
     assert!(!tally.not_swept().is_empty(), "{tally}");
     assert_eq!(sweep(&mut Rereading, 1, &mut tally), None);
     assert!(tally.not_swept().is_empty(), "{tally}");
+}
+
+#[test]
+fn the_model_does_not_differ_from_itself_in_swept_files() {
+    let mut tally = Tally::default();
+    assert_eq!(sweep_files(&mut Rereading, &mut tally), None);
+    assert!(tally.calls > 10_000, "{tally}");
 }

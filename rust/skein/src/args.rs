@@ -1,9 +1,11 @@
 //! The command line.
+use crate::policy::PolicyCommand;
 use crate::words::{one_of, quoted};
 use std::ffi::{OsStr, OsString};
 use std::io::IsTerminal;
 
-const COMMANDS: [&str; 4] = ["run", "explain", "demo", "import"];
+const COMMANDS: [&str; 5] = ["run", "explain", "demo", "import", "policy"];
+const POLICY_COMMANDS: [&str; 4] = ["check", "show", "build", "find"];
 const OPTIONS: [&str; 6] = [
     "--json",
     "--all-rights",
@@ -20,6 +22,7 @@ pub enum Command {
     Explain(OsString),
     Demo,
     Import(OsString),
+    Policy(PolicyCommand),
     Help,
     Version,
 }
@@ -130,8 +133,13 @@ impl Words {
         if self.verbose && matches!(command, Command::Explain(_) | Command::Demo) {
             return Err("--verbose is for run".to_owned());
         }
-        if matches!(command, Command::Import(_)) && (self.json || self.all_rights || self.verbose) {
-            return Err("import takes no --json, --all-rights or --verbose".to_owned());
+        let plain = match command {
+            Command::Import(_) => Some("import"),
+            Command::Policy(_) => Some("policy"),
+            _ => None,
+        };
+        if let (Some(name), true) = (plain, self.json || self.all_rights || self.verbose) {
+            return Err(format!("{name} takes no --json, --all-rights or --verbose"));
         }
         Ok(Options {
             command,
@@ -156,10 +164,39 @@ fn command(plain: &[OsString]) -> Result<Command, String> {
         (Some("run"), _) => word("FILE", Command::Run),
         (Some("explain"), _) => word("FILE", Command::Explain),
         (Some("import"), _) => word("DIRECTORY", Command::Import),
+        (Some("policy"), words) => policy(words).map(Command::Policy),
         (Some("demo"), []) => Ok(Command::Demo),
         (Some("demo"), [more, ..]) => Err(too_many(more)),
         _ => Err(unknown("command", &name.to_string_lossy(), &COMMANDS)),
     }
+}
+
+/// What to do with policy files.
+fn policy(words: &[OsString]) -> Result<PolicyCommand, String> {
+    let Some((name, rest)) = words.split_first() else {
+        let commands = POLICY_COMMANDS.join(", ");
+        return Err(format!("policy needs one of {commands}"));
+    };
+    let needs = match (name.to_str(), rest) {
+        (Some("check"), [file]) => return Ok(PolicyCommand::Check(file.clone())),
+        (Some("show"), [file]) => return Ok(PolicyCommand::Show(file.clone())),
+        (Some("build"), [text, file]) => {
+            return Ok(PolicyCommand::Build(text.clone(), file.clone()))
+        }
+        (Some("find"), [stock, site, name]) => {
+            let words = [stock, site, name].map(Clone::clone);
+            return Ok(PolicyCommand::Find(words));
+        }
+        (Some("check" | "show"), _) => "a FILE",
+        (Some("build"), _) => "a TEXT and a FILE",
+        (Some("find"), _) => "STOCK, SITE and a NAME",
+        _ => {
+            let name = name.to_string_lossy();
+            return Err(unknown("command policy", &name, &POLICY_COMMANDS));
+        }
+    };
+    let name = name.to_string_lossy();
+    Err(format!("policy {name} needs {needs} and nothing else"))
 }
 
 fn too_many(word: &OsStr) -> String {
@@ -225,6 +262,16 @@ mod tests {
             "import a --json",
             "import a -v",
             "import --all-rights a",
+            "policy",
+            "policy walk a",
+            "policy check",
+            "policy check a b",
+            "policy show",
+            "policy build a",
+            "policy build a b c",
+            "policy find a b",
+            "policy find a b c d",
+            "policy check --json a",
             "run --fast a",
             "run a --color",
             "run a --color blue",

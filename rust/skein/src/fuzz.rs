@@ -47,8 +47,10 @@ impl Tried {
                 width: WIDTH,
                 paint: Paint { on: false },
             };
-            let ran = with_bytes("file", bytes, |name, play| view.run(name, play));
-            let explained = with_bytes("file", bytes, |name, play| view.explain(name, play));
+            let folder = Path::new("");
+            let ran = with_bytes("file", folder, bytes, |name, play| view.run(name, play));
+            let explained =
+                with_bytes("file", folder, bytes, |name, play| view.explain(name, play));
             for outcome in [&ran, &explained] {
                 look_at(outcome, json, bytes);
             }
@@ -281,6 +283,16 @@ const CALLS: &[(&str, usize)] = &[
     ("add_path_rule", 4),
     ("add_port_rule", 4),
     ("restrict", 3),
+    (r"find_policy bytes=\x01\x01\x00p none", 1),
+    (
+        r"find_policy none bytes=\x01\x01\x001\x02\x18\x00\*24{\x01}",
+        1,
+    ),
+    (
+        r"apply_policy bytes=\x01\x01\x001\x02\x18\x00\x04\*23{\x00} none",
+        1,
+    ),
+    ("apply_policy none", 2),
     ("layer_rules", 1),
     ("clone", 1),
     ("end", 1),

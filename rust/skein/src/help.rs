@@ -7,6 +7,10 @@ usage: skein run [--json] [--verbose] [--color WHEN] FILE
        skein explain [--json] [--all-rights] [--color WHEN] FILE
        skein demo [--json] [--all-rights] [--color WHEN]
        skein import DIRECTORY
+       skein policy check FILE
+       skein policy show FILE
+       skein policy build TEXT FILE
+       skein policy find STOCK SITE NAME
        skein --help | --version
 ";
 
@@ -33,6 +37,12 @@ Commands
            machine: kinds, names and hard links, but nothing of the files'
            contents. At most 1,023 entries fit, with names of at most 48
            bytes; if something does not fit, it says what and prints nothing.
+  policy   is about policy files, which hold rulesets by their names. check says
+           which ones a FILE has, or at which byte it is damaged and how; show
+           prints it as text, one field to a line; build makes a FILE of such a
+           TEXT; find says which of two files a NAME means, and prints its
+           ruleset. A file whose name ends in .txt is text and is built first;
+           none is an empty one. docs/POLICY.md has both forms.
 
 Options
   --json        one JSON document instead of text; docs/SCENARIO.md lists its
@@ -48,7 +58,7 @@ Options
 
 Format (in full: docs/SCENARIO.md)
   [repeat N] CALL ARGUMENT .. [-> LABEL] [=> ANSWER [layer=N] [rights=RIGHTS]
-  [entries_read=N] [start=N] [length=N] [answer=ANSWER]]
+  [entries_read=N] [start=N] [length=N] [answer=ANSWER] [file=FILE] [place=N]]
   # a comment, to the end of the line
 
   repeat N makes the call N times, from 1 to 100,000, each with that answer.
@@ -63,6 +73,8 @@ Format (in full: docs/SCENARIO.md)
   answer=, layer=, rights= and entries_read= for what it answers there; slot
   answers empty, waiting or answered, with the same words. ask says what the
   call behind it would answer up to and with its verdict; it makes nothing.
+  find_policy and apply_policy say with file= (stock, site or none), place= and
+  length= where the ruleset stands, or which file is damaged and where.
 
   Tables start fresh at level 6, and so does the queue, which fresh leaves
   alone. A number is decimal or hexadecimal (0x1f). An entry, ruleset or thread
@@ -79,6 +91,8 @@ Format (in full: docs/SCENARIO.md)
     close_ruleset RULESET
     add_path_rule RULESET ENTRY RIGHTS [FLAGS]
     add_port_rule RULESET PORT RIGHTS [FLAGS]
+    find_policy STOCK SITE NAME
+    apply_policy STOCK SITE NAME
     restrict THREAD RULESET [FLAGS]
     layer_rules LAYER
     clone THREAD
@@ -113,6 +127,8 @@ Format (in full: docs/SCENARIO.md)
   A PATH in place of a directory and a name, or of a directory and an entry:
   its last component is the name or the entry, what stands before it the
   directory.
+  STOCK, SITE: a policy file by its name, from where the scenario stands, its
+  bytes=TEXT with the escapes of a NAME, or none for an empty one.
   SLOT: a number; the queue has 0 to 7.
   TABLE: system entries rulesets layers pool threads names, or of the queue
   requests states answers cursor. COUNT, STEP and RISE make a run of writes: how
@@ -132,8 +148,10 @@ Rights: a number, none, or names joined by + in any letter case
 
 Exit codes
   0   every answer is as its line expects
-  1   some answer differs: a refusal on a line without => among them
-  2   bad input: FILE:LINE: what was found; what was expected
+  1   some answer differs: a refusal on a line without => among them; neither
+      file of policy find has the name
+  2   bad input: FILE:LINE: what was found; what was expected; of a policy file
+      FILE: byte PLACE: its bytes there, and the same
   3   FILE cannot be read, or the output cannot be written
   64  wrong usage
 

@@ -22,6 +22,7 @@ mod messages;
 mod paint;
 mod picture;
 mod play;
+mod policy;
 mod scenario;
 mod transcript;
 mod words;
@@ -35,6 +36,7 @@ use picture::Explained;
 use play::{play, Play};
 use std::ffi::OsStr;
 use std::io::{ErrorKind, Read, Write};
+use std::path::Path;
 use std::process::ExitCode;
 use words::escaped;
 
@@ -108,6 +110,7 @@ fn perform(options: &Options) -> Outcome {
         Command::Explain(file) => with_file(file, |name, play| view.explain(name, play)),
         Command::Demo => view.demo(),
         Command::Import(directory) => import_tree(directory),
+        Command::Policy(command) => policy::perform(command),
     }
 }
 
@@ -145,13 +148,22 @@ fn with_file(file: &OsStr, show: impl FnOnce(&str, Play) -> Outcome) -> Outcome 
             }
         }
     };
-    with_bytes(&name, &bytes, show)
+    let folder = Path::new(file).parent().unwrap_or(Path::new(""));
+    with_bytes(&name, folder, &bytes, show)
 }
 
-/// Reads and plays the bytes of a file, and gives the play to `show`.
-fn with_bytes(name: &str, bytes: &[u8], show: impl FnOnce(&str, Play) -> Outcome) -> Outcome {
+/// Reads and plays the bytes of a file that stands in a folder, and gives the play to `show`.
+fn with_bytes(
+    name: &str,
+    folder: &Path,
+    bytes: &[u8],
+    show: impl FnOnce(&str, Play) -> Outcome,
+) -> Outcome {
     match scenario::parse(bytes) {
-        Ok(scenario) => show(name, play(&scenario)),
+        Ok(mut scenario) => {
+            scenario.folder = folder.to_owned();
+            show(name, play(&scenario))
+        }
         Err(lines) => Outcome {
             messages: bad_lines(name, &lines),
             code: BAD_INPUT,

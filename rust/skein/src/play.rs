@@ -1,15 +1,19 @@
 //! Plays a scenario on the broker.
+use crate::policy::{self, Unread, LONGEST_FILE};
 use crate::scenario::{
-    Answer, AskedCall, Bad, BadLine, Call, Mask, Masks, Names, Operand, Other, Place, Poked,
-    QueueCall, Report, RulesetBytes, RulesetCall, Scenario, SlotReport, Space, Statement, Text,
-    ThreadCall, TreeCall,
+    Answer, AskedCall, Bad, BadLine, Call, FileOperand, Mask, Masks, Names, Operand, Other, Place,
+    Poked, PolicyCall, PolicyReport, QueueCall, Report, RulesetBytes, RulesetCall, Scenario,
+    SlotReport, Space, Statement, Text, ThreadCall, TreeCall,
 };
 use crate::words::quoted;
 use skeinrabbit::{
-    component_range, Attribute, Batch, Cells, Entry, Errno, Judged, Layer, Level, PortRights,
-    Queue, Refusal, Rights, Rule, Ruleset, Scopes, Slot, SlotState, Table, Tables, Thread, Turn,
-    Verdict,
+    component_range, find_policy, Attribute, Batch, Cells, Entry, Errno, Judged, Layer, Level,
+    PolicyFile, PolicyPart, PolicyRefusal, PortRights, Queue, Refusal, Rights, Rule, Ruleset,
+    Scopes, Slot, SlotState, Table, Tables, Thread, Turn, Verdict,
 };
+use std::ffi::OsString;
+use std::os::unix::ffi::OsStringExt;
+use std::path::PathBuf;
 
 /// Tables, queue and names as the lines so far left them.
 pub struct Player {
@@ -18,6 +22,8 @@ pub struct Player {
     pub names: Names,
     /// The round of the line that is played.
     round: u64,
+    /// Where policy files are.
+    folder: PathBuf,
 }
 
 /// A line that was played.
@@ -33,6 +39,8 @@ pub struct Played<'s> {
     pub rules: Vec<Rule>,
     /// The part of its path that `component` gave in it.
     pub part: Vec<u8>,
+    /// What is wrong with policy files, in words.
+    pub fault: Option<String>,
 }
 
 impl Played<'_> {
@@ -70,7 +78,7 @@ impl<'s> Play<'s> {
 
 /// Plays a scenario from fresh tables at level 6.
 pub fn play(scenario: &Scenario) -> Play<'_> {
-    let mut player = Player::new();
+    let mut player = Player::new(scenario.folder.clone());
     let mut played = Vec::new();
     let mut stopped = None;
     for statement in &scenario.statements {
@@ -116,10 +124,7 @@ fn judged<R: Default>(result: Result<Answer, Refusal<R>>, mask: fn(R) -> Mask) -
     let named = |layer, rights: R| {
         Some(Report {
             layer,
-            rights: mask(rights),
-            entries_read: None,
-            part: None,
-            slot: None,
+            ..Report::empty(mask(rights))
         })
     };
     match result {
@@ -168,7 +173,7 @@ fn made(result: Result<Entry, Refusal<Rights>>) -> Said {
 }
 
 impl Player {
-    fn new() -> Self {
+    fn new(folder: PathBuf) -> Self {
         let mut tables = Tables::from_cells(Cells::zeroed());
         // The level is one that there is; were it refused, every line would show EIO.
         let _ = tables.fresh(Level::LATEST);
@@ -178,6 +183,7 @@ impl Player {
             queue: Queue::new(),
             names,
             round: 1,
+            folder,
         }
     }
 
@@ -197,9 +203,11 @@ impl Player {
         self.round = round;
         let mut rules = Vec::new();
         let mut part = Vec::new();
+        let mut fault = None;
         let (answer, report) = match &statement.call {
             Call::Fresh { level } => (done(self.tables.fresh(*level)), None),
             Call::Ruleset(call) => (self.ruleset_call(call)?, None),
+            Call::Policy(call) => self.policy_call(call, &mut fault)?,
             Call::LayerRules { layer } => (self.layer_rules(*layer, &mut rules), None),
             Call::Thread { thread, call } => self.thread_call(thread, call)?,
             Call::Tree { thread, call } => self.tree_call(thread, call)?,
@@ -223,6 +231,7 @@ impl Player {
             report,
             rules,
             part,
+            fault,
         })
     }
 
@@ -259,6 +268,51 @@ impl Player {
                 let (thread, ruleset) = (self.thread(thread)?, self.ruleset(ruleset)?);
                 done(self.tables.restrict(thread, ruleset, *flags).map(drop))
             }
+        })
+    }
+
+    /// Finds a ruleset in policy files or opens it; where they are the reason of a refusal, says so.
+    fn policy_call(&mut self, call: &PolicyCall, fault: &mut Option<String>) -> Result<Said, Bad> {
+        let (stock, site) = (self.file(&call.stock)?, self.file(&call.site)?);
+        let name = call.name.bytes(self.round);
+        let found = find_policy(&stock, &site, &name);
+        let answered = if call.apply {
+            let applied = self.tables.apply_policy(&stock, &site, &name);
+            applied.map(|ruleset| Answer::New(ruleset.number()))
+        } else {
+            found.map(|_| Answer::Done)
+        };
+        // Of a ruleset that is found and not opened, nothing is reported.
+        let found = answered.and(found);
+        let report = Report {
+            policy: Some(policy_report(found)),
+            ..Report::empty(Mask::Files(Rights::NONE))
+        };
+        let answer = answered.unwrap_or_else(|refusal| {
+            *fault = policy_fault(refusal, &stock, &site);
+            Answer::Refused(refusal.errno())
+        });
+        Ok((answer, Some(report)))
+    }
+
+    /// The bytes of a policy file.
+    fn file(&self, file: &FileOperand) -> Result<Vec<u8>, Bad> {
+        let name = match file {
+            FileOperand::Bytes(bytes) => return Ok(bytes.bytes(self.round)),
+            FileOperand::Name(name) => OsString::from_vec(name.bytes(self.round)),
+        };
+        let shown = quoted(&name.to_string_lossy());
+        policy::read(&self.folder.join(name)).map_err(|unread| match unread {
+            Unread::Io(error) => Bad::new(
+                format!("{shown}: {error}"),
+                "a policy file that can be read",
+            ),
+            Unread::Lines(lines) => match lines.into_iter().next() {
+                Some(BadLine { line, bad }) => {
+                    Bad::new(format!("{shown}, line {line}: {}", bad.found), bad.expected)
+                }
+                None => Bad::new(shown, "a policy file"),
+            },
         })
     }
 
@@ -396,13 +450,9 @@ impl Player {
         let path = path.bytes(self.round);
         let place = usize::try_from(place).unwrap_or(usize::MAX);
         let range = component_range(&path, place).unwrap_or(0..0);
-        let count = |number: usize| u64::try_from(number).unwrap_or(u64::MAX);
         let report = Report {
-            layer: None,
-            rights: Mask::Files(Rights::NONE),
-            entries_read: None,
             part: Some((count(range.start), count(range.len()))),
-            slot: None,
+            ..Report::empty(Mask::Files(Rights::NONE))
         };
         part.extend_from_slice(path.get(range).unwrap_or_default());
         (Answer::Done, Some(report))
@@ -518,6 +568,47 @@ impl Player {
             let found = format!("the {noun} {}, whose call was refused", quoted(name));
             Bad::new(found, "a label that a successful call bound")
         })
+    }
+}
+
+/// A number of bytes, or a place among them.
+fn count(number: usize) -> u64 {
+    u64::try_from(number).unwrap_or(u64::MAX)
+}
+
+/// What is said of policy files beside the answer.
+fn policy_report(found: Result<PolicyPart, PolicyRefusal>) -> PolicyReport {
+    let (file, place, length) = match found {
+        Ok(part) => (Some(part.file), part.place, part.bytes.len()),
+        Err(PolicyRefusal::Damaged { file, place }) => (Some(file), place, 0),
+        Err(PolicyRefusal::TooBig { file }) => (Some(file), 0, 0),
+        Err(PolicyRefusal::Missing | PolicyRefusal::Call(_)) => (None, 0, 0),
+    };
+    PolicyReport {
+        file,
+        place: count(place),
+        length: count(length),
+    }
+}
+
+/// What is wrong with policy files, in words.
+fn policy_fault(refusal: PolicyRefusal, stock: &[u8], site: &[u8]) -> Option<String> {
+    match refusal {
+        PolicyRefusal::Damaged { file, place } => {
+            let bytes = match file {
+                PolicyFile::Stock => stock,
+                PolicyFile::Site => site,
+            };
+            let Bad { found, expected } = policy::fault(bytes, place);
+            Some(format!(
+                "{file} file, byte {place}: found {found}; expected {expected}"
+            ))
+        }
+        PolicyRefusal::TooBig { file } => Some(format!(
+            "the {file} file has more than {LONGEST_FILE} bytes"
+        )),
+        PolicyRefusal::Missing => Some("neither file has a ruleset of that name".to_owned()),
+        PolicyRefusal::Call(_) => None,
     }
 }
 

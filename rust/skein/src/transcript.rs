@@ -3,7 +3,9 @@ use crate::json::Json;
 use crate::lines::{broken, Row};
 use crate::paint::Paint;
 use crate::play::{Play, Played};
-use crate::scenario::{written, Answer, Call, Mask, Report, RulesetCall, SlotReport, Space};
+use crate::scenario::{
+    written, Answer, Call, Mask, PolicyReport, Report, RulesetCall, SlotReport, Space,
+};
 use crate::words::{cut, shown};
 use skeinrabbit::{Errno, Layer, Rights, Rule, SlotState};
 
@@ -77,6 +79,9 @@ pub fn reason(played: &Played) -> Option<String> {
     };
     if let Some(denial) = denial(played) {
         return Some(format!("{errno}: {denial}"));
+    }
+    if let Some(fault) = &played.fault {
+        return Some(format!("{errno}: {fault}"));
     }
     let reason = match (&played.statement.call, errno) {
         (Call::Queue(_), Errno::EIO) => "the queue is not sound",
@@ -250,10 +255,22 @@ fn below(played: &Played) -> Vec<String> {
     let why = if played.differs() {
         reason(played)
     } else {
-        denial(played)
+        denial(played).or_else(|| played.fault.clone())
     };
     let rules = played.rules.iter().map(rule_text);
-    why.into_iter().chain(rules).chain(part(played)).collect()
+    let parts = part(played).into_iter().chain(policy_part(played));
+    why.into_iter().chain(rules).chain(parts).collect()
+}
+
+/// The part of a policy file that a name means, in words.
+fn policy_part(played: &Played) -> Option<String> {
+    let PolicyReport {
+        file,
+        place,
+        length,
+    } = played.report?.policy?;
+    let (file, end) = (file?, place + length);
+    (length > 0).then(|| format!("{file} file, bytes {place} to {end}"))
 }
 
 /// The part of a path that a call gave, in words.
@@ -359,6 +376,25 @@ pub fn call_json(played: &Played) -> Json {
             "slot",
             Json::option(played.report.and_then(|report| report.slot), slot_json),
         ),
+        (
+            "policy",
+            Json::option(played.report.and_then(|report| report.policy), |policy| {
+                policy_json(policy, played.fault.as_deref())
+            }),
+        ),
+    ])
+}
+
+/// What is said of policy files: the file, the ruleset's part of it or the place of its fault, and what is wrong.
+fn policy_json(policy: PolicyReport, fault: Option<&str>) -> Json {
+    Json::Object(vec![
+        (
+            "file",
+            Json::option(policy.file, |file| Json::text(file.to_string())),
+        ),
+        ("place", Json::Number(policy.place)),
+        ("length", Json::Number(policy.length)),
+        ("fault", Json::option(fault, Json::text)),
     ])
 }
 

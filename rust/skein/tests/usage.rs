@@ -120,7 +120,7 @@ fn a_label_whose_call_was_refused_is_bad_input() {
 #[test]
 fn unknown_words_of_the_command_line_get_the_known_ones() {
     for (words, message) in [
-        (&["walk"][..], "there is no command `walk`; expected one: run, explain, demo, import\n"),
+        (&["walk"][..], "there is no command `walk`; expected one: run, explain, demo, import, policy\n"),
         (&["Explain", "f"], "there is no command `Explain`; expected one: perhaps `explain`\n"),
         (&["run", "f", "--jsno"], "there is no option `--jsno`; expected one: perhaps `--json`\n"),
         (&["run", "f", "--colour=never"], "there is no option `--colour=never`; expected one: --json, --all-rights, --verbose, --color, --help, --version\n"),

@@ -20,6 +20,10 @@ pub const MAX_SLOTS: usize = 8;
 pub const MAX_NAME: usize = 48;
 /// Bytes of a path that is looked up.
 pub const MAX_PATH: usize = 4095;
+/// Bytes of a policy file.
+pub const MAX_POLICY: usize = 32_768;
+/// Bytes of the name of a ruleset in a policy file.
+pub const MAX_RULESET_NAME: usize = 32;
 
 /// The cells of the only row of `system`.
 pub const SYSTEM_WIDTH: usize = 4;
@@ -40,6 +44,9 @@ pub const ANSWER_WIDTH: usize = 4;
 /// The cells of a batch's request and of its answer.
 pub const BATCH_REQUEST_WIDTH: usize = 7;
 pub const BATCH_ANSWER_WIDTH: usize = 3;
+
+/// The cells of a report about policy files: the file, a place in it, a length.
+pub const POLICY_REPORT_WIDTH: usize = 3;
 
 /// The bytes of `names`, which has a row for each entry.
 pub const NAMES_SIZE: usize = NAME_WIDTH * MAX_ENTRIES;

@@ -5,8 +5,9 @@
 //!
 //! Calls that say more than their number write a report, of any length: the cells that fit are written, with every answer, and
 //! cells past them stay. The report of a request about an entry or a port, or of a change of the tree, is the layer that refuses
-//! (its number + 1, or 0 for none) and its rights; behind these an access reports how many entries' rules it read. Only
-//! [`component`] and [`post`] take no tables.
+//! (its number + 1, or 0 for none) and its rights; behind these an access reports how many entries' rules it read. The report about
+//! policy files is the file (0 stock, 1 site), a place in it and a length. Only [`component`], [`post`] and [`find_policy`] take no
+//! tables.
 #![no_std]
 
 pub mod layout;
@@ -302,6 +303,23 @@ call! {
     )
 }
 
+call! {
+    /// Opens a ruleset as policy files have it under a name; answers its number. Reports as [`find_policy`] does; zeros where a call
+    /// that it makes is refused or the tables are not sound.
+    apply_policy(tables: &mut Cells, stock: &[u8], site: &[u8], name: &[u8], report: &mut [u64]),
+    skein_apply_policy[const const mut const const const const]
+    (
+        stock.as_ptr() => *const u8,
+        stock.len() => usize,
+        site.as_ptr() => *const u8,
+        site.len() => usize,
+        name.as_ptr() => *const u8,
+        name.len() => usize,
+        report.as_mut_ptr() => *mut u64,
+        report.len() => usize
+    )
+}
+
 /// Puts an access request into a slot of a queue, where it waits for a turn.
 pub fn post(queue: &mut QueueCells, slot: u64, thread: u64, entry: u64, rights: u64) -> u64 {
     extern "C" {
@@ -355,6 +373,37 @@ pub fn component(path: &[u8], place: u64, report: &mut [u64]) -> u64 {
             path.as_ptr(),
             path.len(),
             place,
+            report.as_mut_ptr(),
+            report.len(),
+        )
+    }
+}
+
+/// Where the ruleset of a name stands in two policy files, of which the site's goes first. Answers 0 and reports the file (0 stock,
+/// 1 site), where its part begins and how long it is; with EBADMSG the damaged file, the place of the fault and 0; with E2BIG the file
+/// that is too long, 0 and 0; with ENOENT zeros.
+pub fn find_policy(stock: &[u8], site: &[u8], name: &[u8], report: &mut [u64]) -> u64 {
+    extern "C" {
+        fn skein_find_policy(
+            stock: *const u8,
+            stock_len: usize,
+            site: *const u8,
+            site_len: usize,
+            name: *const u8,
+            name_len: usize,
+            report: *mut u64,
+            report_len: usize,
+        ) -> u64;
+    }
+    // As for the other calls; the files and the name are only read, so they may overlap.
+    unsafe {
+        skein_find_policy(
+            stock.as_ptr(),
+            stock.len(),
+            site.as_ptr(),
+            site.len(),
+            name.as_ptr(),
+            name.len(),
             report.as_mut_ptr(),
             report.len(),
         )

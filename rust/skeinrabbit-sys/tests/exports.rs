@@ -4,11 +4,16 @@ use std::collections::BTreeMap;
 const DECLARED: &str = include_str!("../src/lib.rs");
 const PROVED: &str = include_str!("../../../crates/capi/src/lib.rt");
 
+/// The proved exports without lifetimes, which say nothing of what is written.
+fn proved_source() -> &'static str {
+    PROVED.replace("<'a>", "").replace("&'a ", "&").leak()
+}
+
 /// Whether each table may be changed, by export.
 type Changes = BTreeMap<&'static str, [bool; 7]>;
 
 /// The exports that take no tables.
-const TABLELESS: [&str; 2] = ["component(", "post("];
+const TABLELESS: [&str; 3] = ["component(", "post(", "find_policy("];
 
 fn takes_tables(row: &&str) -> bool {
     !TABLELESS.iter().any(|name| row.starts_with(name))
@@ -43,7 +48,7 @@ fn proved() -> Changes {
         ("threads", "u64"),
         ("names", "u8"),
     ];
-    let exports = PROVED.split("extern \"C\" fn skein_").skip(1);
+    let exports = proved_source().split("extern \"C\" fn skein_").skip(1);
     let with_tables = exports.filter(takes_tables);
     with_tables
         .map(|export| {
@@ -65,7 +70,7 @@ fn proved() -> Changes {
 #[test]
 fn tables_are_writable_exactly_where_the_proved_export_writes() {
     let (declared, proved) = (declared(), proved());
-    assert_eq!(declared.len(), 23);
+    assert_eq!(declared.len(), 24);
     for (name, tables) in declared {
         assert_eq!(proved.get(name), Some(&tables), "{name}");
     }
@@ -73,7 +78,7 @@ fn tables_are_writable_exactly_where_the_proved_export_writes() {
 
 /// The parameters of an export that are the parts of a queue, each with whether it may be changed.
 fn proved_queue(name: &str) -> Vec<(&str, bool)> {
-    let export = PROVED.split("extern \"C\" fn skein_");
+    let export = proved_source().split("extern \"C\" fn skein_");
     let export = export.skip(1).find(|export| export.starts_with(name));
     let (parameters, _) = export.unwrap().split_once(") -> u64").unwrap();
     let parameters = parameters.lines().filter_map(|line| {
@@ -109,21 +114,54 @@ fn parts_of_a_queue_are_writable_exactly_where_the_proved_export_writes() {
     assert_eq!(proved_queue("turn(").len(), 4);
 }
 
-#[test]
-fn only_the_answers_of_a_batch_are_writable() {
-    let export = PROVED.split("extern \"C\" fn skein_");
-    let export = export.skip(1).find(|export| export.starts_with("batch("));
+/// The kinds of an export's parameters after the first ones.
+fn proved_kinds(name: &str, first: usize) -> Vec<&'static str> {
+    let export = proved_source().split("extern \"C\" fn skein_");
+    let export = export.skip(1).find(|export| export.starts_with(name));
     let (parameters, _) = export.unwrap().split_once(") -> u64").unwrap();
     let kinds = parameters.lines().filter_map(|line| line.split_once(": "));
-    let lists: Vec<&str> = kinds.skip(7).map(|(_, kind)| kind).collect();
+    kinds.skip(first).map(|(_, kind)| kind).collect()
+}
+
+/// That a declaration, from its start to its end, has these parameters in this order.
+fn declares(start: &str, end: &str, parameters: &[&str]) {
+    let (_, declared) = DECLARED.split_once(start).unwrap();
+    let (declared, _) = declared.split_once(end).unwrap();
+    let places = parameters
+        .iter()
+        .map(|text| declared.find(text).expect(text));
+    assert!(places.is_sorted(), "{start}");
+}
+
+#[test]
+fn only_the_answers_of_a_batch_are_writable() {
+    let lists = proved_kinds("batch(", 7);
     assert_eq!(lists, ["&[u64],", "&[u8],", "&mut [u64],"]);
-    let (_, batch) = DECLARED.split_once("skein_batch[").unwrap();
-    let (batch, _) = batch.split_once("\n}").unwrap();
-    let places = [
+    let parameters = [
         "requests.as_ptr() => *const u64,",
         "names.as_ptr() => *const u8,",
         "answers.as_mut_ptr() => *mut u64,",
-    ]
-    .map(|declared| batch.find(declared).expect(declared));
-    assert!(places.is_sorted());
+    ];
+    declares("skein_batch[", "\n}", &parameters);
+}
+
+#[test]
+fn only_the_report_about_policy_files_is_writable() {
+    let kinds = ["&[u8],", "&[u8],", "&[u8],", "&mut [u64],"];
+    assert_eq!(proved_kinds("find_policy(", 0), kinds);
+    assert_eq!(proved_kinds("apply_policy(", 7), kinds);
+    let parameters = [
+        "stock: *const u8,",
+        "site: *const u8,",
+        "name: *const u8,",
+        "report: *mut u64,",
+    ];
+    declares("fn skein_find_policy(", ") -> u64", &parameters);
+    let parameters = [
+        "stock.as_ptr() => *const u8,",
+        "site.as_ptr() => *const u8,",
+        "name.as_ptr() => *const u8,",
+        "report.as_mut_ptr() => *mut u64,",
+    ];
+    declares("skein_apply_policy[", "\n}", &parameters);
 }

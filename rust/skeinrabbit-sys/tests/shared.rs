@@ -1,7 +1,7 @@
 //! The calls that change nothing, on tables in memory that cannot be written: a write would end the program.
 use skeinrabbit_sys::{
-    abstract_socket, access, batch, component, layer_rules, lookup, port, post, signal, turn,
-    QueueCells, SharedCells, NAMES_SIZE, SIZES,
+    abstract_socket, access, batch, component, find_policy, layer_rules, lookup, port, post,
+    signal, turn, QueueCells, SharedCells, NAMES_SIZE, SIZES,
 };
 
 const fn cells<const N: usize>(first: [u64; 4]) -> [u64; N] {
@@ -255,4 +255,29 @@ fn unsound_tables_are_every_answer_of_a_batch() {
         batch(short, &ASKED, &ASKED_NAMES, &mut answers[..14]),
         EINVAL
     );
+}
+
+/// A ruleset "p" with three masks of zeros.
+static FILE: [u8; 31] = {
+    let mut file = [0; 31];
+    [file[0], file[1], file[3], file[4], file[5]] = [1, 1, b'p', 2, 24];
+    file
+};
+const EBADMSG: u64 = 74u64.wrapping_neg();
+
+#[test]
+fn policy_files_are_only_read() {
+    // The same bytes may be stock, site and name: nothing of them is written.
+    let mut report = [7; 4];
+    assert_eq!(find_policy(&FILE, &FILE, &FILE[3..4], &mut report), 0);
+    assert_eq!(report, [1, 0, 31, 7]);
+    assert_eq!(find_policy(&FILE, &[], &FILE[3..4], &mut report), 0);
+    assert_eq!(report, [0, 0, 31, 7]);
+    assert_eq!(find_policy(&FILE, &FILE, b"q", &mut report), ENOENT);
+    assert_eq!(report, [0, 0, 0, 7]);
+    assert_eq!(
+        find_policy(&FILE, &FILE[..4], b"p", &mut report[..2]),
+        EBADMSG
+    );
+    assert_eq!(report, [1, 4, 0, 7]);
 }

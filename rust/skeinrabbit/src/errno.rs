@@ -71,6 +71,7 @@ errnos! {
     ENAMETOOLONG = 36, "a name or a path is too long";
     ENOTEMPTY = 39, "directory not empty";
     ENOMSG = 42, "empty set of rights";
+    EBADMSG = 74, "a policy file is damaged";
     EOPNOTSUPP = 95, "Landlock is disabled";
 }
 
@@ -149,7 +150,7 @@ mod tests {
             assert_eq!(errno.to_string().parse(), Ok(*errno));
             assert_eq!(format!("-{}", errno.number()).parse(), Ok(*errno));
         }
-        assert_eq!(Errno::ALL.len(), 21);
+        assert_eq!(Errno::ALL.len(), 22);
     }
 
     #[test]

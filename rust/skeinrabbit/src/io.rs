@@ -3,6 +3,7 @@
 extern crate std;
 
 use crate::errno::Errno;
+use crate::policy_file::PolicyRefusal;
 use crate::refusal::Refusal;
 use std::io;
 
@@ -35,6 +36,13 @@ impl From<Errno> for io::Error {
 /// The error of its number, without the layer and the rights.
 impl<R> From<Refusal<R>> for io::Error {
     fn from(refusal: Refusal<R>) -> Self {
+        refusal.errno().into()
+    }
+}
+
+/// The error of its number, without the file and the place.
+impl From<PolicyRefusal> for io::Error {
+    fn from(refusal: PolicyRefusal) -> Self {
         refusal.errno().into()
     }
 }

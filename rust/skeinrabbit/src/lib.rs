@@ -146,6 +146,28 @@
 //! # Ok::<(), Errno>(())
 //! ```
 //!
+//! # Policy files
+//!
+//! Rulesets may stand in files, each under a name: a stock file, and a site file whose rulesets go first. [`find_policy`] gives the part
+//! that a name means, and [`Tables::apply_policy`] opens a ruleset as it says. A file that is damaged anywhere is refused with the
+//! place. `skein policy` makes such files of text.
+//!
+//! ```
+//! use skeinrabbit::{find_policy, Attribute, Errno, Level, PolicyFile, Scope, Tables, Thread};
+//!
+//! let mut site = [&[1, 6, 0], &b"worker"[..], &[2, 24, 0]].concat();
+//! site.extend(Attribute { scope: Scope::SIGNAL, ..Attribute::default() }.to_bytes());
+//! assert_eq!(find_policy(&[], &site, "worker").map(|part| part.file), Ok(PolicyFile::Site));
+//!
+//! let mut tables = Tables::new(Level::LATEST)?;
+//! let ruleset = tables.apply_policy(&[], &site, "worker")?;
+//! let worker = tables.clone_thread(Thread::MAIN)?;
+//! tables.set_no_new_privs(worker)?;
+//! tables.restrict(worker, ruleset, 0)?;
+//! assert_eq!(tables.signal(worker, Thread::MAIN), Err(Errno::EPERM));
+//! # Ok::<(), Errno>(())
+//! ```
+//!
 //! # Numbers
 //!
 //! Entries, rulesets, threads, layers, slots, kinds, levels and sets of rights are numbers with a type of their own. Any number may
@@ -181,6 +203,7 @@ mod level;
 mod names;
 mod numbers;
 mod policy;
+mod policy_file;
 mod queue;
 mod refusal;
 mod rights;
@@ -198,6 +221,7 @@ pub use kind::Kind;
 pub use level::Level;
 pub use names::{component, component_range, components};
 pub use numbers::{Entry, Layer, Ruleset, Slot, Thread};
+pub use policy_file::{find_policy, PolicyFile, PolicyPart, PolicyRefusal};
 pub use queue::{Queue, QueueCells, QueuePart, SlotRow, SlotState, Turn};
 pub use refusal::{Judged, Refusal};
 pub use rights::{AccessFs, AccessNet, PortRights, Rights, Scope, Scopes};

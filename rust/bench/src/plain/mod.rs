@@ -2,6 +2,7 @@
 
 pub mod batch;
 pub mod broker;
+pub mod files;
 pub mod own;
 pub mod soundness;
 pub mod verdict;

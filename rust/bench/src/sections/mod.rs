@@ -2,6 +2,7 @@
 
 mod batch;
 mod calls;
+mod files;
 mod parts;
 mod soundness;
 mod verdicts;
@@ -15,7 +16,7 @@ pub struct Section {
     pub run: fn(Effort),
 }
 
-pub const SECTIONS: [Section; 5] = [
+pub const SECTIONS: [Section; 6] = [
     Section {
         name: "parts",
         run: parts::run,
@@ -31,6 +32,10 @@ pub const SECTIONS: [Section; 5] = [
     Section {
         name: "calls",
         run: calls::run,
+    },
+    Section {
+        name: "files",
+        run: files::run,
     },
     Section {
         name: "soundness",

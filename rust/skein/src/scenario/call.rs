@@ -11,6 +11,7 @@ pub enum Call {
         level: Level,
     },
     Ruleset(RulesetCall),
+    Policy(PolicyCall),
     LayerRules {
         layer: Layer,
     },
@@ -92,6 +93,25 @@ pub enum RulesetCall {
         ruleset: Operand,
         flags: u64,
     },
+}
+
+/// A ruleset that is found in policy files by its name, and perhaps opened.
+#[derive(Debug, PartialEq, Eq)]
+pub struct PolicyCall {
+    pub stock: FileOperand,
+    pub site: FileOperand,
+    pub name: Text,
+    /// Whether it is opened.
+    pub apply: bool,
+}
+
+/// A policy file.
+#[derive(Debug, PartialEq, Eq)]
+pub enum FileOperand {
+    /// Its bytes.
+    Bytes(Text),
+    /// Its name, from where the scenario stands.
+    Name(Text),
 }
 
 /// A thread's call that leaves the tree alone.

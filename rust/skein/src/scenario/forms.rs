@@ -1,7 +1,10 @@
 //! How each call is written.
 use super::arguments::{number, Arguments};
 use super::attribute::create_ruleset;
-use super::call::{AskedCall, Call, Other, Place, QueueCall, RulesetCall, ThreadCall, TreeCall};
+use super::call::{
+    AskedCall, Call, FileOperand, Other, Place, PolicyCall, QueueCall, RulesetCall, ThreadCall,
+    TreeCall,
+};
 use super::names::{Operand, Space};
 use super::poke::{poke, poke_name};
 use super::report::Sort;
@@ -49,7 +52,7 @@ const LINK: &str = "link THREAD SOURCE DIRECTORY NAME` or `link THREAD SOURCE PA
 const RENAME: &str = "rename THREAD SOURCE DIRECTORY NAME` or `rename THREAD SOURCE PATH";
 const EXCHANGE: &str = "exchange THREAD SOURCE DIRECTORY ENTRY` or `exchange THREAD SOURCE PATH";
 
-static FORMS: [Form; 28] = [
+static FORMS: [Form; 30] = [
     form("fresh LEVEL", None, fresh),
     form(CREATE_RULESET, Some(Space::Ruleset), create_ruleset),
     form("close_ruleset RULESET", None, close_ruleset),
@@ -62,6 +65,18 @@ static FORMS: [Form; 28] = [
         "add_port_rule RULESET PORT RIGHTS [FLAGS]",
         None,
         add_port_rule,
+    ),
+    judged(
+        "find_policy STOCK SITE NAME",
+        None,
+        Sort::Policy,
+        find_policy,
+    ),
+    judged(
+        "apply_policy STOCK SITE NAME",
+        Some(Space::Ruleset),
+        Sort::Policy,
+        apply_policy,
     ),
     form("restrict THREAD RULESET [FLAGS]", None, restrict),
     form("layer_rules LAYER", None, layer_rules),
@@ -180,6 +195,36 @@ fn add_port_rule(arguments: &mut Arguments) -> Result<Call, Bad> {
         rights: arguments.value()?,
         flags: arguments.flags()?,
     }))
+}
+
+fn find_policy(arguments: &mut Arguments) -> Result<Call, Bad> {
+    policy(arguments, false)
+}
+
+fn apply_policy(arguments: &mut Arguments) -> Result<Call, Bad> {
+    policy(arguments, true)
+}
+
+fn policy(arguments: &mut Arguments, apply: bool) -> Result<Call, Bad> {
+    Ok(Call::Policy(PolicyCall {
+        stock: file(arguments)?,
+        site: file(arguments)?,
+        name: arguments.text()?,
+        apply,
+    }))
+}
+
+/// A policy file by its bytes or by its name.
+fn file(arguments: &mut Arguments) -> Result<FileOperand, Bad> {
+    let word = arguments.word()?;
+    // More than any file may have.
+    const MOST: usize = 65_536;
+    match (word, word.strip_prefix("bytes=")) {
+        ("none", _) => Text::parse("\"\"").map(FileOperand::Bytes),
+        (_, Some("")) => Err(Bad::word(word, "bytes behind `bytes=`, or `none`")),
+        (_, Some(bytes)) => Text::parse_within(bytes, MOST).map(FileOperand::Bytes),
+        (name, None) => Text::parse(name).map(FileOperand::Name),
+    }
 }
 
 fn restrict(arguments: &mut Arguments) -> Result<Call, Bad> {

@@ -11,23 +11,27 @@ mod report;
 mod text;
 
 pub use answer::{Answer, Expected, ExpectedAnswer};
+pub use arguments::{number, value, Named};
 pub use call::{
-    AskedCall, Call, Masks, Other, Place, QueueCall, RulesetBytes, RulesetCall, ThreadCall,
-    TreeCall,
+    AskedCall, Call, FileOperand, Masks, Other, Place, PolicyCall, QueueCall, RulesetBytes,
+    RulesetCall, ThreadCall, TreeCall,
 };
 pub use names::{Names, Operand, Space};
 pub use poke::Poked;
-pub use report::{Mask, Report, ReportWords, SlotReport};
+pub use report::{Mask, PolicyReport, Report, ReportWords, SlotReport};
 pub use text::{written, Text};
 
 use crate::words::quoted;
 use arguments::Arguments;
 use names::{is_name, Declared};
+use std::path::PathBuf;
 
 /// A scenario that could be read.
 #[derive(Debug)]
 pub struct Scenario {
     pub statements: Vec<Statement>,
+    /// Where the names of its policy files are looked for.
+    pub folder: PathBuf,
 }
 
 /// A line with a call.
@@ -112,6 +116,7 @@ pub fn parse(bytes: &[u8]) -> Result<Scenario, Vec<BadLine>> {
     if bad_lines.is_empty() {
         Ok(Scenario {
             statements: reader.statements,
+            folder: PathBuf::new(),
         })
     } else {
         Err(bad_lines)
@@ -128,16 +133,7 @@ struct Reader {
 
 impl Reader {
     fn line(&mut self, line: usize, bytes: &[u8]) -> Result<(), Bad> {
-        let text = std::str::from_utf8(bytes.strip_suffix(b"\r").unwrap_or(bytes))
-            .map_err(|_| Bad::new("bytes that are not UTF-8", "UTF-8 text"))?;
-        let (code, comment) = match text.split_once('#') {
-            Some((code, comment)) => (code, Some(comment)),
-            None => (text, None),
-        };
-        let words: Vec<&str> = code
-            .split([' ', '\t'])
-            .filter(|word| !word.is_empty())
-            .collect();
+        let (words, comment) = words_of(bytes)?;
         match (words.as_slice(), comment) {
             ([], Some(comment)) => self.heading.push(comment.trim().to_owned()),
             ([], None) => self.heading.clear(),
@@ -176,6 +172,18 @@ impl Reader {
     }
 }
 
+/// The words of a line, and its comment where it has one.
+pub fn words_of(line: &[u8]) -> Result<(Vec<&str>, Option<&str>), Bad> {
+    let text = std::str::from_utf8(line.strip_suffix(b"\r").unwrap_or(line))
+        .map_err(|_| Bad::new("bytes that are not UTF-8", "UTF-8 text"))?;
+    let (code, comment) = match text.split_once('#') {
+        Some((code, comment)) => (code, Some(comment)),
+        None => (text, None),
+    };
+    let words = code.split([' ', '\t']).filter(|word| !word.is_empty());
+    Ok((words.collect(), comment))
+}
+
 /// The words before `mark`, and those after it where it stands.
 fn split_at_word<'a, 'w>(
     words: &'a [&'w str],
@@ -193,8 +201,8 @@ fn split_at_word<'a, 'w>(
 /// The name after `->`, in the space of what the call makes.
 fn binding(makes: Option<Space>, words: &[&str]) -> Result<(Space, String), Bad> {
     let Some(space) = makes else {
-        let expected =
-            "it only after create_ruleset, clone, create or link, which make something, or lookup";
+        let expected = "it only after create_ruleset, apply_policy, clone, create or link, which \
+            make something, or lookup";
         return Err(Bad::word("->", expected));
     };
     let name = match words {

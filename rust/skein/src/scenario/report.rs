@@ -1,8 +1,8 @@
-//! What a request, a change of the tree, a component or a slot says beside its answer, and what a line says of that.
+//! What a request, a change of the tree, a component, a slot or a policy file says beside its answer, and what a line says of that.
 use super::answer::Answer;
 use super::arguments::{number, value};
 use super::Bad;
-use skeinrabbit::{Entry, Errno, Layer, PortRights, Rights, Slot, SlotState, Thread};
+use skeinrabbit::{Entry, Errno, Layer, PolicyFile, PortRights, Rights, Slot, SlotState, Thread};
 use std::fmt;
 
 /// Which layer refused, and for which rights; no layer and no rights where none did.
@@ -16,6 +16,30 @@ pub struct Report {
     pub part: Option<(u64, u64)>,
     /// The slot that a turn served or that was read; the layer, the rights and the entries are then those of its answer.
     pub slot: Option<SlotReport>,
+    /// What is said of policy files.
+    pub policy: Option<PolicyReport>,
+}
+
+impl Report {
+    /// The report of a call that no layer refused and that says nothing else.
+    pub fn empty(rights: Mask) -> Self {
+        Self {
+            layer: None,
+            rights,
+            entries_read: None,
+            part: None,
+            slot: None,
+            policy: None,
+        }
+    }
+}
+
+/// Where a ruleset stands, or where a policy file is damaged or that it is too long; no file where none is the reason.
+#[derive(Clone, Copy, Debug, Default, PartialEq, Eq)]
+pub struct PolicyReport {
+    pub file: Option<PolicyFile>,
+    pub place: u64,
+    pub length: u64,
 }
 
 /// A slot: its request, and what its answer's cells hold.
@@ -65,6 +89,7 @@ pub enum Sort {
     Change,
     Component,
     Slot,
+    Policy,
 }
 
 impl Sort {
@@ -85,6 +110,7 @@ impl Sort {
             Sort::Slot => {
                 "answer=, layer=, rights=, entries_read= or the end of the line after the answer"
             }
+            Sort::Policy => "file=, place=, length= or the end of the line after the answer",
             _ => "layer=, rights= or the end of the line after the answer",
         }
     }
@@ -101,6 +127,9 @@ pub struct ReportWords {
     length: Option<u64>,
     /// What a slot's answer is.
     answer: Option<Result<(), Errno>>,
+    /// The policy file, or that there is none.
+    file: Option<Option<PolicyFile>>,
+    place: Option<u64>,
 }
 
 impl ReportWords {
@@ -121,10 +150,18 @@ impl ReportWords {
             Some(("start", text)) if sort == Sort::Component => {
                 self.start.replace(number(text, "a place")?).is_some()
             }
-            Some(("length", text)) if sort == Sort::Component => {
+            Some(("length", text)) if matches!(sort, Sort::Component | Sort::Policy) => {
                 self.length.replace(number(text, "a length")?).is_some()
             }
-            _ if sort == Sort::Component => return Err(Bad::word(word, sort.expected())),
+            Some(("file", text)) if sort == Sort::Policy => {
+                self.file.replace(file(text)?).is_some()
+            }
+            Some(("place", text)) if sort == Sort::Policy => {
+                self.place.replace(number(text, "a place")?).is_some()
+            }
+            _ if matches!(sort, Sort::Component | Sort::Policy) => {
+                return Err(Bad::word(word, sort.expected()))
+            }
             Some(("layer", text)) => self.layer.replace(layer(text)?).is_some(),
             Some(("rights", text)) => self.rights.replace(sort.mask(text)?).is_some(),
             Some(("entries_read", text)) if matches!(sort, Sort::Access | Sort::Slot) => {
@@ -153,6 +190,8 @@ impl ReportWords {
         let rights = self.rights.is_none() || self.rights == report.map(|report| report.rights);
         let read = report.and_then(|report| report.entries_read);
         let (start, length) = report.and_then(|report| report.part).unzip();
+        let policy = report.and_then(|report| report.policy);
+        let length = length.or(policy.map(|policy| policy.length));
         let slot = report.and_then(|report| report.slot);
         let answer = slot.map(|slot| slot.answer);
         layer
@@ -161,6 +200,8 @@ impl ReportWords {
             && (self.start.is_none() || self.start == start)
             && (self.length.is_none() || self.length == length)
             && (self.answer.is_none() || self.answer == answer)
+            && (self.file.is_none() || self.file == policy.map(|policy| policy.file))
+            && (self.place.is_none() || self.place == policy.map(|policy| policy.place))
     }
 }
 
@@ -171,6 +212,16 @@ fn slot_answer(word: &str) -> Result<Result<(), Errno>, Bad> {
     }
     let errno = word.parse().map(Err);
     errno.map_err(|_| Bad::word(word, "0, an error's negated number (-13) or its name"))
+}
+
+/// One of the two policy files, or that there is none.
+fn file(word: &str) -> Result<Option<PolicyFile>, Bad> {
+    match word {
+        "stock" => Ok(Some(PolicyFile::Stock)),
+        "site" => Ok(Some(PolicyFile::Site)),
+        "none" => Ok(None),
+        _ => Err(Bad::word(word, "stock, site or none")),
+    }
 }
 
 /// A layer's number, or that there is none.
@@ -197,9 +248,15 @@ impl fmt::Display for ReportWords {
         if let Some(rights) = self.rights {
             write!(f, " rights={rights}")?;
         }
+        match self.file {
+            Some(Some(file)) => write!(f, " file={file}")?,
+            Some(None) => f.write_str(" file=none")?,
+            None => {}
+        }
         for (word, number) in [
             ("entries_read", self.entries_read),
             ("start", self.start),
+            ("place", self.place),
             ("length", self.length),
         ] {
             if let Some(number) = number {

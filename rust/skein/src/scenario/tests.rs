@@ -140,6 +140,7 @@ fn a_line_may_name_the_layer_and_the_rights() {
             entries_read: None,
             part: None,
             slot: None,
+            policy: None,
         };
         let answer = Answer::Refused(Errno::EACCES);
         statement(line).allows(answer, Some(report))
@@ -172,6 +173,7 @@ fn a_line_may_name_how_many_entries_are_read() {
             entries_read: Some(count),
             part: None,
             slot: None,
+            policy: None,
         };
         statement(line).allows(Answer::Done, Some(report))
     };
@@ -318,6 +320,7 @@ fn a_line_may_name_the_part_of_a_path() {
             entries_read: None,
             part: Some(part),
             slot: None,
+            policy: None,
         };
         statement(line).allows(Answer::Done, Some(report))
     };
@@ -414,6 +417,7 @@ fn a_line_may_name_what_a_turn_answers() {
             entries_read: Some(2),
             part: None,
             slot: Some(slot(answer)),
+            policy: None,
         };
         statement(line).allows(Answer::Served(Slot::new(3)), Some(report))
     };
@@ -665,7 +669,7 @@ const MISTAKES: &[(&str, &str, &str)] = &[
     (
         "access main root 1 -> x",
         "`->`",
-        "create_ruleset, clone, create or link, which make something, or lookup",
+        "create_ruleset, apply_policy, clone, create or link, which make something, or lookup",
     ),
     ("clone main =>", "nothing after `=>`", "an answer"),
     ("clone main => new x", "`x`", "a number"),

@@ -21,20 +21,34 @@ enum Piece {
 impl Text {
     /// Reads a word with its escapes.
     pub fn parse(word: &str) -> Result<Text, Bad> {
+        Text::parse_within(word, MOST)
+    }
+
+    /// Reads a word with its escapes, of at most so many bytes.
+    pub fn parse_within(word: &str, most: usize) -> Result<Text, Bad> {
         if word == EMPTY {
             return Ok(Text(Vec::new()));
         }
         let mut pieces = Vec::new();
         let mut rest = word;
         while !rest.is_empty() {
-            let (read, more) = next(rest).ok_or_else(|| Bad::word(word, ESCAPES))?;
+            let (read, more) = next(rest, most).ok_or_else(|| Bad::word(word, ESCAPES))?;
             pieces.extend(read);
             rest = more;
-            if pieces.len() > MOST {
-                return Err(Bad::word(word, format!("at most {MOST} bytes")));
+            if pieces.len() > most {
+                return Err(Bad::word(word, format!("at most {most} bytes")));
             }
         }
         Ok(Text(pieces))
+    }
+
+    /// The bytes, if they are the same in each round.
+    pub fn fixed(&self) -> Option<Vec<u8>> {
+        let bytes = self.0.iter().map(|piece| match piece {
+            Piece::Byte(byte) => Some(*byte),
+            Piece::Round => None,
+        });
+        bytes.collect()
     }
 
     /// The bytes in a round.
@@ -52,8 +66,8 @@ impl Text {
 
 const ESCAPES: &str = "`\\xNN` for a byte, `\\\\` for a backslash, `\\i` for the round or `\\*N{TEXT}` for N times a text";
 
-/// The pieces that a word starts with, and what is left of it; none where an escape is not one.
-fn next(word: &str) -> Option<(Vec<Piece>, &str)> {
+/// The pieces that a word of at most so many bytes starts with, and what is left of it; none where an escape is not one.
+fn next(word: &str, most: usize) -> Option<(Vec<Piece>, &str)> {
     let Some(escape) = word.strip_prefix('\\') else {
         let end = word.find('\\').unwrap_or(word.len());
         let (plain, rest) = word.split_at(end);
@@ -71,23 +85,23 @@ fn next(word: &str) -> Option<(Vec<Piece>, &str)> {
         let signed = digits.starts_with(['+', '-']);
         return (!signed).then_some((vec![Piece::Byte(byte)], digits.get(2..)?));
     }
-    times(escape.strip_prefix('*')?)
+    times(escape.strip_prefix('*')?, most)
 }
 
 /// The pieces of `N{TEXT}`, which holds no other such.
-fn times(word: &str) -> Option<(Vec<Piece>, &str)> {
+fn times(word: &str, most: usize) -> Option<(Vec<Piece>, &str)> {
     let (count, rest) = word.split_once('{')?;
     let (text, rest) = rest.split_once('}')?;
     let count = usize::try_from(parse_number(count)?).ok()?;
     let mut pieces = Vec::new();
     let mut inner = text;
     while !inner.is_empty() {
-        let (read, more) = next(inner).filter(|_| !inner.starts_with("\\*"))?;
+        let (read, more) = next(inner, most).filter(|_| !inner.starts_with("\\*"))?;
         pieces.extend(read);
         inner = more;
     }
     // Longer ones are refused; none is made much longer.
-    let most = MOST / pieces.len().max(1) + 1;
+    let most = most / pieces.len().max(1) + 1;
     Some((pieces.repeat(count.min(most)), rest))
 }
 

@@ -1,0 +1,2 @@
+-- The second field of a ruleset's part.
+pub mod Second

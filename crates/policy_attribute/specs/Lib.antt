@@ -1,0 +1,2 @@
+-- Where a ruleset's masks are.
+pub mod Masks

@@ -1,0 +1,2 @@
+-- Where what a name means lies.
+pub mod Within

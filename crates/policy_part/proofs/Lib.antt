@@ -1,0 +1,2 @@
+-- A part applied.
+pub mod Applied

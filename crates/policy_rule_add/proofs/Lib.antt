@@ -1,0 +1,3 @@
+-- Calls on sound tables with names.
+pub mod Sound
+pub mod Rules

@@ -1,0 +1,2 @@
+-- A rule of a policy file, added.
+pub mod Added

@@ -1,0 +1,2 @@
+-- Rules added one after another.
+pub mod Steps

@@ -1,0 +1,2 @@
+-- What an application answers and reports.
+pub mod Meant
