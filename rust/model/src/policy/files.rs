@@ -73,7 +73,7 @@ pub fn wanted(model: &Model, random: &mut Random) -> Wanted {
         let file = random.below(2) as usize;
         damage(&mut files[file], random);
     }
-    if random.chance(6) {
+    if random.chance(8) {
         let file = random.below(2) as usize;
         fill_up(&mut files[file], random);
     }
@@ -86,7 +86,7 @@ pub fn wanted(model: &Model, random: &mut Random) -> Wanted {
     Wanted {
         files,
         name,
-        report: random.pick(&[3, 3, 3, 0, 1, 2, 5]),
+        report: random.pick(&[3, 3, 0, 1, 2, 5]),
     }
 }
 
@@ -158,7 +158,8 @@ fn rule(masks: [u64; 3], model: &Model, random: &mut Random) -> Vec<u8> {
     let entry = model.lookup(&path).ok();
     let kind = entry.and_then(|entry| model.entries.get(&entry));
     let rights = kind.map_or(u64::MAX, |entry| entry.kind.rights().0);
-    path_rule(some_of(fs & rights, random), &path)
+    let rights = if random.chance(15) { fs } else { fs & rights };
+    path_rule(some_of(rights, random), &path)
 }
 
 /// Rights of a mask, mostly; none, or others.
