@@ -227,6 +227,11 @@ fn damage(file: &mut Vec<u8>, random: &mut Random) {
     let place = random.pick(&fields);
     let end = fields.iter().copied().find(|end| *end > place);
     let end = end.unwrap_or(file.len());
+    if random.chance(50) {
+        let faulty = random.pick(&[0, 1, 2, 3, 4, 5, 6, 7, 8, 9]);
+        file.splice(place..place, faulty_field(faulty));
+        return;
+    }
     match random.below(20) {
         14 | 18 | 19 => {
             let inner = match random.below(6) {
@@ -293,6 +298,22 @@ fn damage(file: &mut Vec<u8>, random: &mut Random) {
             let at = random.below(file.len() as u64 + 1) as usize;
             write(file, at, random.number() as u8);
         }
+    }
+}
+
+/// A field that is faulty itself, wherever a rule may stand.
+fn faulty_field(number: usize) -> Vec<u8> {
+    match number {
+        0 => field(3, &[0; 7]),
+        1 => field(4, &[0; 9]),
+        2 => field(5, &[]),
+        3 => group(7, &[]),
+        4 => group(6, &opening(b"r", [1, 0, 0])),
+        5 => nested(DEEPEST + 1, &[]),
+        6 => field(2, &[0; MASKS]),
+        7 => opening(&[], [4, 0, 0]),
+        8 => opening(&[b'n'; LONGEST_NAME + 1], [4, 0, 0]),
+        _ => field(6, &[]),
     }
 }
 
