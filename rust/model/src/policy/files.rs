@@ -233,40 +233,10 @@ fn damage(file: &mut Vec<u8>, random: &mut Random) {
         return;
     }
     match random.below(20) {
-        14 | 18 | 19 => {
-            let inner = match random.below(6) {
-                0 => Vec::new(),
-                1 => opening(b"p", [4, 0, 0]),
-                2 => field(2, &[0; MASKS]),
-                3 => vec![3, 8],
-                4 => vec![3, 9, 0, 4, 0, 0, 0, 0, 0, 0, 0],
-                _ => field(random.pick(&[0, 6, 16]), &[]),
-            };
-            let levels = [0, 1, 1, 1, 6, 6, 7];
-            let group = match random.chance(10) {
-                true => field(5, &[]),
-                false => group(random.pick(&levels), &inner),
-            };
-            file.splice(place..place, group);
+        way @ (10 | 11 | 14 | 15 | 18 | 19) => {
+            let put = another_field(way, random);
+            file.splice(place..place, put);
         }
-        15 => {
-            let depth = DEEPEST + random.below(3) as usize;
-            file.splice(place..place, nested(depth, &path_rule(4, b"/")));
-        }
-        16 => {
-            // Somewhere in a group, perhaps.
-            let at = random.below(file.len() as u64 + 1) as usize;
-            let byte = random.pick(&[0, 1, 2, 3, 4, 5, 6, 7]);
-            write(file, at, byte);
-        }
-        0 => write(file, place, random.below(8) as u8),
-        1 => write(file, place, random.number() as u8),
-        2 | 3 => {
-            let by = random.pick(&[1, 255, 8, 16]);
-            let old = file.get(place + 1).copied().unwrap_or(0);
-            write(file, place + 1, old.wrapping_add(by));
-        }
-        4 => write(file, place + 2, random.pick(&[1, 128, 255])),
         5 => file.truncate(random.below(file.len() as u64 + 1) as usize),
         6 => file.truncate(place),
         7 => {
@@ -279,21 +249,65 @@ fn damage(file: &mut Vec<u8>, random: &mut Random) {
             let at = random.pick(&fields);
             file.splice(at..at, again);
         }
+        12 => file.extend(field(1, &names()[random.below(3) as usize])),
+        way => write_byte(file, place, way, random),
+    }
+}
+
+/// A field that may be put anywhere, in one way or another.
+fn another_field(way: u64, random: &mut Random) -> Vec<u8> {
+    match way {
         10 => {
             let name = match random.below(3) {
                 0 => Vec::new(),
                 1 => vec![b'p'; LONGEST_NAME + 1],
                 _ => names()[0].clone(),
             };
-            file.splice(place..place, opening(&name, [4, 0, 0]));
+            opening(&name, [4, 0, 0])
         }
         11 => {
             let tag = random.pick(&[0, 2, 3, 3, 4, 4, 5, 6, 16, 255]);
             let length = random.pick(&[0, 1, 7, 8, 9, 10, 11, 23, 24, 25]);
             let value: Vec<u8> = (0..length).map(|_| random.number() as u8).collect();
-            file.splice(place..place, field(tag, &value));
+            field(tag, &value)
         }
-        12 => file.extend(field(1, &names()[random.below(3) as usize])),
+        15 => nested(DEEPEST + random.below(3) as usize, &path_rule(4, b"/")),
+        _ => faulty_group(random),
+    }
+}
+
+/// A group that has a faulty field in it or is faulty itself, mostly.
+fn faulty_group(random: &mut Random) -> Vec<u8> {
+    let inner = match random.below(6) {
+        0 => Vec::new(),
+        1 => opening(b"p", [4, 0, 0]),
+        2 => field(2, &[0; MASKS]),
+        3 => vec![3, 8],
+        4 => vec![3, 9, 0, 4, 0, 0, 0, 0, 0, 0, 0],
+        _ => field(random.pick(&[0, 6, 16]), &[]),
+    };
+    match random.chance(10) {
+        true => field(5, &[]),
+        false => group(random.pick(&[0, 1, 1, 1, 6, 6, 7]), &inner),
+    }
+}
+
+/// Writes a byte of the field at a place, or any byte, in one way or another.
+fn write_byte(file: &mut [u8], place: usize, way: u64, random: &mut Random) {
+    match way {
+        0 => write(file, place, random.below(8) as u8),
+        1 => write(file, place, random.number() as u8),
+        2 | 3 => {
+            let by = random.pick(&[1, 255, 8, 16]);
+            let old = file.get(place + 1).copied().unwrap_or(0);
+            write(file, place + 1, old.wrapping_add(by));
+        }
+        4 => write(file, place + 2, random.pick(&[1, 128, 255])),
+        16 => {
+            // Somewhere in a group, perhaps.
+            let at = random.below(file.len() as u64 + 1) as usize;
+            write(file, at, random.pick(&[0, 1, 2, 3, 4, 5, 6, 7]));
+        }
         _ => {
             let at = random.below(file.len() as u64 + 1) as usize;
             write(file, at, random.number() as u8);
