@@ -265,7 +265,7 @@ fn another_field(way: u64, random: &mut Random) -> Vec<u8> {
             };
             opening(&name, [4, 0, 0])
         }
-        _ => {
+        11 => {
             let tag = random.pick(&[0, 2, 3, 3, 4, 4, 5, 6, 16, 255]);
             let length = random.pick(&[0, 1, 7, 8, 9, 10, 11, 23, 24, 25]);
             let value: Vec<u8> = (0..length).map(|_| random.number() as u8).collect();
