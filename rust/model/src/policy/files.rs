@@ -391,6 +391,19 @@ fn bases() -> Vec<Vec<u8>> {
     ]
     .concat();
     let nearly = [opening(b"p", [1, 0, 0]), field(1, b"q")].concat();
+    let mut bases = grouped_bases();
+    bases.extend([
+        Vec::new(),
+        opening(b"p", [4, 0, 0]),
+        worked,
+        several,
+        nearly,
+    ]);
+    bases
+}
+
+/// Files with groups, as deep as may be and deeper.
+fn grouped_bases() -> Vec<Vec<u8>> {
     let inner = [path_rule(4, b"/cal"), group(6, &[]), port_rule(1, 80)].concat();
     let groups = [
         opening(b"p", [0xffff, 3, 3]),
@@ -411,16 +424,7 @@ fn bases() -> Vec<Vec<u8>> {
         nested(DEEPEST + 1, &path_rule(4, b"/")),
     ]
     .concat();
-    vec![
-        groups,
-        deepest,
-        too_deep,
-        Vec::new(),
-        opening(b"p", [4, 0, 0]),
-        worked,
-        several,
-        nearly,
-    ]
+    vec![groups, deepest, too_deep]
 }
 
 /// Every base as one file or the other, unchanged, with every byte changed, cut at every place, with every length
