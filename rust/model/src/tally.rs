@@ -495,7 +495,7 @@ fn reports() -> impl Iterator<Item = Report> {
         NotContained,
         OtherNotContained,
         NoSuchRuleset,
-        NothingHandled,
+        RightsNotHandled,
     ];
     let reporting = REFUSALS.iter().filter(|(call, refusals)| {
         let saying = ["layer_rules", "component", "find_policy", "apply_policy"];
