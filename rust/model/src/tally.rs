@@ -440,9 +440,10 @@ impl Tally {
         let asked = asked().filter(|asked| !self.asked.contains_key(asked));
         let lists = Lists::ALL.iter();
         let lists = lists.filter(|lists| !self.lists.contains_key(lists));
-        let groups = (0..=DEEPEST).flat_map(|depth| [false, true].map(|some| (depth, some)));
-        let groups =
-            groups.filter(|groups| *groups != (0, true) && !self.groups.contains_key(groups));
+        // Rules are left out at any depth; that they are is asked for where that is often.
+        let depths = (0..=DEEPEST).map(|depth| (depth, false));
+        let groups = depths.chain([(1, true), (2, true)]);
+        let groups = groups.filter(|groups| !self.groups.contains_key(groups));
         let faults = faults().filter(|faulty| !self.faults.contains_key(faulty));
         let lines = refusals.map(|(call, refusal)| format!("{call} {}", refusal_text(refusal)));
         lines

@@ -228,7 +228,7 @@ fn damage(file: &mut Vec<u8>, random: &mut Random) {
     let end = fields.iter().copied().find(|end| *end > place);
     let end = end.unwrap_or(file.len());
     if random.chance(50) {
-        let faulty = random.pick(&[0, 1, 2, 3, 4, 5, 6, 7, 8, 9]);
+        let faulty = random.pick(&[0, 1, 2, 3, 4, 5, 6, 7, 8, 9, 10]);
         file.splice(place..place, faulty_field(faulty));
         return;
     }
@@ -327,6 +327,7 @@ fn faulty_field(number: usize) -> Vec<u8> {
         6 => field(2, &[0; MASKS]),
         7 => opening(&[], [4, 0, 0]),
         8 => opening(&[b'n'; LONGEST_NAME + 1], [4, 0, 0]),
+        9 => [field(1, b"r"), field(2, &[0; MASKS - 1])].concat(),
         _ => field(6, &[]),
     }
 }
