@@ -1,6 +1,6 @@
 //! Random policy files, fine and damaged, and a list of files with every byte changed.
 
-use super::read::{LONGEST_NAME, MASKS};
+use super::read::{DEEPEST, LONGEST_NAME, MASKS};
 use super::{Wanted, LONGEST_FILE};
 use crate::attributes::level_masks;
 use crate::paths::path;
@@ -21,6 +21,16 @@ pub fn path_rule(rights: u64, path: &[u8]) -> Vec<u8> {
 pub fn port_rule(rights: u64, port: u16) -> Vec<u8> {
     let value = [&rights.to_le_bytes()[..], &port.to_le_bytes()].concat();
     field(4, &value)
+}
+
+/// A group of fields from a level on.
+pub fn group(level: u8, fields: &[u8]) -> Vec<u8> {
+    field(5, &[&[level], fields].concat())
+}
+
+/// A rule in so many groups, each inside the next.
+pub fn nested(depth: usize, rule: &[u8]) -> Vec<u8> {
+    (0..depth).fold(rule.to_vec(), |inner, _| group(1, &inner))
 }
 
 /// The name and the masks of a ruleset.
@@ -114,12 +124,48 @@ fn ruleset(name: &[u8], model: &Model, random: &mut Random) -> Vec<u8> {
     if random.chance(6) {
         return many_rules(name, random);
     }
-    let masks = masks(model, random);
+    let groups = random.chance(40);
+    let masks = match groups && random.chance(70) {
+        // One file serves several levels: bits that higher ones know.
+        true => [random.bits_of(0xffff) | 4, random.below(4), random.below(4)],
+        false => masks(model, random),
+    };
     let mut bytes = opening(name, masks);
     for _ in 0..random.pick(&[0, 1, 2, 3, 4, 6]) {
-        bytes.extend(rule(masks, model, random));
+        let rule = rule(masks, model, random);
+        match groups && random.chance(60) {
+            true => bytes.extend(grouped(rule, masks, model, random)),
+            false => bytes.extend(rule),
+        }
     }
     bytes
+}
+
+/// A rule in groups, perhaps more than may be, with other rules beside it.
+fn grouped(rule: Vec<u8>, masks: [u64; 3], model: &Model, random: &mut Random) -> Vec<u8> {
+    let deepest = DEEPEST as u64;
+    let depth = match random.below(10) {
+        0 => deepest,
+        1..=3 => random.between(3, deepest + 1),
+        _ => random.between(1, 2),
+    };
+    let mut fields = match random.chance(15) {
+        true => Vec::new(),
+        false => rule,
+    };
+    for _ in 0..depth {
+        let level = match random.below(40) {
+            0 => random.pick(&[0, 7, 255]),
+            1..=10 => model.level.max(1) as u8,
+            11..=18 => random.between(1, 6) as u8,
+            _ => 1,
+        };
+        fields = group(level, &fields);
+        if random.chance(10) {
+            fields.extend(self::rule(masks, model, random));
+        }
+    }
+    fields
 }
 
 /// A ruleset with about as many rules as one may have.
@@ -182,12 +228,12 @@ fn damage(file: &mut Vec<u8>, random: &mut Random) {
     let end = fields.iter().copied().find(|end| *end > place);
     let end = end.unwrap_or(file.len());
     if random.chance(50) {
-        let faulty = random.pick(&[0, 1, 2, 3, 4, 5]);
+        let faulty = random.pick(&[0, 1, 2, 3, 4, 5, 6, 7, 8, 9, 10]);
         file.splice(place..place, faulty_field(faulty));
         return;
     }
-    match random.below(14) {
-        way @ (10 | 11) => {
+    match random.below(20) {
+        way @ (10 | 11 | 14 | 15 | 18 | 19) => {
             let put = another_field(way, random);
             file.splice(place..place, put);
         }
@@ -219,12 +265,30 @@ fn another_field(way: u64, random: &mut Random) -> Vec<u8> {
             };
             opening(&name, [4, 0, 0])
         }
-        _ => {
+        11 => {
             let tag = random.pick(&[0, 2, 3, 3, 4, 4, 5, 6, 16, 255]);
             let length = random.pick(&[0, 1, 7, 8, 9, 10, 11, 23, 24, 25]);
             let value: Vec<u8> = (0..length).map(|_| random.number() as u8).collect();
             field(tag, &value)
         }
+        15 => nested(DEEPEST + random.below(3) as usize, &path_rule(4, b"/")),
+        _ => faulty_group(random),
+    }
+}
+
+/// A group that has a faulty field in it or is faulty itself, mostly.
+fn faulty_group(random: &mut Random) -> Vec<u8> {
+    let inner = match random.below(6) {
+        0 => Vec::new(),
+        1 => opening(b"p", [4, 0, 0]),
+        2 => field(2, &[0; MASKS]),
+        3 => vec![3, 8],
+        4 => vec![3, 9, 0, 4, 0, 0, 0, 0, 0, 0, 0],
+        _ => field(random.pick(&[0, 6, 16]), &[]),
+    };
+    match random.chance(10) {
+        true => field(5, &[]),
+        false => group(random.pick(&[0, 1, 1, 1, 6, 6, 7]), &inner),
     }
 }
 
@@ -239,6 +303,11 @@ fn write_byte(file: &mut [u8], place: usize, way: u64, random: &mut Random) {
             write(file, place + 1, old.wrapping_add(by));
         }
         4 => write(file, place + 2, random.pick(&[1, 128, 255])),
+        16 => {
+            // Somewhere in a group, perhaps.
+            let at = random.below(file.len() as u64 + 1) as usize;
+            write(file, at, random.pick(&[0, 1, 2, 3, 4, 5, 6, 7]));
+        }
         _ => {
             let at = random.below(file.len() as u64 + 1) as usize;
             write(file, at, random.number() as u8);
@@ -251,9 +320,14 @@ fn faulty_field(number: usize) -> Vec<u8> {
     match number {
         0 => field(3, &[0; 7]),
         1 => field(4, &[0; 9]),
-        2 => field(2, &[0; MASKS]),
-        3 => opening(&[], [4, 0, 0]),
-        4 => opening(&[b'n'; LONGEST_NAME + 1], [4, 0, 0]),
+        2 => field(5, &[]),
+        3 => group(7, &[]),
+        4 => group(6, &opening(b"r", [1, 0, 0])),
+        5 => nested(DEEPEST + 1, &[]),
+        6 => field(2, &[0; MASKS]),
+        7 => opening(&[], [4, 0, 0]),
+        8 => opening(&[b'n'; LONGEST_NAME + 1], [4, 0, 0]),
+        9 => [field(1, b"r"), field(2, &[0; MASKS - 1])].concat(),
         _ => field(6, &[]),
     }
 }
@@ -318,13 +392,40 @@ fn bases() -> Vec<Vec<u8>> {
     ]
     .concat();
     let nearly = [opening(b"p", [1, 0, 0]), field(1, b"q")].concat();
-    vec![
+    let mut bases = grouped_bases();
+    bases.extend([
         Vec::new(),
         opening(b"p", [4, 0, 0]),
         worked,
         several,
         nearly,
+    ]);
+    bases
+}
+
+/// Files with groups, as deep as may be and deeper.
+fn grouped_bases() -> Vec<Vec<u8>> {
+    let inner = [path_rule(4, b"/cal"), group(6, &[]), port_rule(1, 80)].concat();
+    let groups = [
+        opening(b"p", [0xffff, 3, 3]),
+        group(4, &inner),
+        group(2, &group(5, &path_rule(1 << 15, b"/import"))),
+        path_rule(4, b"/"),
+        opening(b"q", [1 << 13, 0, 0]),
+        group(1, &[]),
     ]
+    .concat();
+    let deepest = [
+        opening(b"p", [4, 0, 0]),
+        nested(DEEPEST, &path_rule(4, b"/")),
+    ]
+    .concat();
+    let too_deep = [
+        opening(b"p", [4, 0, 0]),
+        nested(DEEPEST + 1, &path_rule(4, b"/")),
+    ]
+    .concat();
+    vec![groups, deepest, too_deep]
 }
 
 /// Every base as one file or the other, unchanged, with every byte changed, cut at every place, with every length
