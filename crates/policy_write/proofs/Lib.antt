@@ -1,0 +1,7 @@
+-- The laws of writing a policy file.
+pub mod Lists
+pub mod Strict
+pub mod Rising
+pub mod Bytes
+pub mod Reading
+pub mod Chosen
