@@ -44,29 +44,29 @@ module _ (es : List ℕ) (o : ℕ) where
     unfolding goesFirst
     passed n c l C q = (
       (λ h.
-      let D = C .0 h in
-      let s = D .small in
-      record {
-        small = omega arith;
-        entry = D .entry;
-        first-path = λ e k m.
-            split (leb n e)
-            (λ p. let g = leb-true n e p in let x : e ≡ n = omega arith in
-            let y : isEntryOf es o n ≡ true = sym (ap (isEntryOf es o) x) ∙ m in
-            let z : (leb maxEntries c || earlier (pathOf es ns n) (pathOf es ns c)) ≡ false = rw y at q in
-            rw x (or-r (leb maxEntries c) _ z))
-            (λ p. D .first-path e (leb-false n e p) m);
-      }),
+          let D = C .0 h in
+          let s = D .small in
+          record {
+            small = omega arith;
+            entry = D .entry;
+            first-path = λ e k m.
+                split (leb n e)
+                (λ p. let g = leb-true n e p in let x : e ≡ n = omega arith in
+                let y : isEntryOf es o n ≡ true = sym (ap (isEntryOf es o) x) ∙ m in
+                let z : (leb maxEntries c || earlier (pathOf es ns n) (pathOf es ns c)) ≡ false = rw y at q in
+                rw x (or-r (leb maxEntries c) _ z))
+                (λ p. D .first-path e (leb-false n e p) m);
+          }),
       (λ h e k.
-      split (leb n e)
-      (λ p. let g = leb-true n e p in let x : e ≡ n = omega arith in
-      split (isEntryOf es o e)
-      (λ m.
-      let y : isEntryOf es o n ≡ true = sym (ap (isEntryOf es o) x) ∙ m in
-      let z : (leb maxEntries c || earlier (pathOf es ns n) (pathOf es ns c)) ≡ false = rw y at q in
-      clash (leb maxEntries c) (le-leb maxEntries c h) (or-l (leb maxEntries c) _ z))
-      (λ m. m))
-      (λ p. C .1 h e (leb-false n e p))),
+          split (leb n e)
+          (λ p. let g = leb-true n e p in let x : e ≡ n = omega arith in
+          split (isEntryOf es o e)
+          (λ m.
+          let y : isEntryOf es o n ≡ true = sym (ap (isEntryOf es o) x) ∙ m in
+          let z : (leb maxEntries c || earlier (pathOf es ns n) (pathOf es ns c)) ≡ false = rw y at q in
+          clash (leb maxEntries c) (le-leb maxEntries c h) (or-l (leb maxEntries c) _ z))
+          (λ m. m))
+          (λ p. C .1 h e (leb-false n e p))),
     )
 
     -- entry n is the first

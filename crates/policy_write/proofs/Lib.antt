@@ -5,3 +5,5 @@ pub mod Rising
 pub mod Bytes
 pub mod Reading
 pub mod Chosen
+pub mod Keys
+pub mod Agreed

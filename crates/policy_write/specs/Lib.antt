@@ -3,3 +3,4 @@ pub mod Order
 pub mod Chosen
 pub mod Written
 pub mod File
+pub mod Agree
