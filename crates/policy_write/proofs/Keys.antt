@@ -122,6 +122,22 @@ module _ (ty : ℕ) (rules : List ℕ) where
         let s : p ≡ i = K .apart p i (omega arith) l (rule-type k p h ∙ sym (a .2)) (rule-key k p h) in
         ap (λ (n : ℕ). ruleRights rules (rulePlace rules ty n)) e ∙ ap (ruleRights rules) s ∙ sym (ap (λ (w : Keyed ℕ). w .rights) (a .3))
 
+-- a rule is of one type
+module _ (ty ty′ : ℕ) (other : ty ≡ ty′ → ⊥) (rules : List ℕ) where
+  both-below : (n : ℕ) → length (keyedBelow ty rules n) + length (keyedBelow ty′ rules n) ≤ n
+  unfolding keyedBelow
+  both-below zero = omega arith
+  both-below (suc n) =
+      let h = both-below n in
+      split (eqb (ruleType rules n) ty)
+      (λ p. split (eqb (ruleType rules n) ty′)
+      (λ q. absurd (other (sym (eqb-true (ruleType rules n) ty p) ∙ eqb-true (ruleType rules n) ty′ q)))
+      (λ q. rw (p, q) (omega arith)))
+      (λ p. split (eqb (ruleType rules n) ty′) (λ q. rw (p, q) (omega arith)) (λ q. rw (p, q) (omega arith)))
+
+  pub both-few : length (keyed ty rules) + length (keyed ty′ rules) ≤ ruleCount rules
+  both-few = both-below (ruleCount rules)
+
 -- the same rights for each key, exactly if the same items
 module _ (ty : ℕ) (rules rules′ : List ℕ) (K : Keys rules) (K′ : Keys rules′) where
   pub items-of-rights : ((k : ℕ) → rightsOn rules ty k ≡ rightsOn rules′ ty k) → (x : Keyed ℕ) → In x (keyed ty rules) → In x (keyed ty rules′)

@@ -1,0 +1,3 @@
+-- The laws of written policy files.
+pub mod Filled
+pub mod Create
