@@ -1,3 +1,4 @@
 -- The laws of written policy files.
 pub mod Filled
 pub mod Create
+pub mod Adds
