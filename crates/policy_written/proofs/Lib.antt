@@ -2,3 +2,5 @@
 pub mod Filled
 pub mod Create
 pub mod Adds
+pub mod Applied
+pub mod Sound
