@@ -4,3 +4,5 @@ pub mod Create
 pub mod Adds
 pub mod Applied
 pub mod Sound
+pub mod Trip
+pub mod Proved
