@@ -29,10 +29,8 @@ use Rattle.policy_write.specs.Written.{masksBytes, written}
 use Rattle.policy_write.proofs.Bytes.{MasksFit, FitAll, fs-back, net-back, scope-back}
 use Rattle.policy_write.proofs.Reading.{rules-read-back, masks-read-back}
 use Rattle.named.specs.Named.{Named, withNames, namedSound, NamedOutcome, namedOutcome}
-use Rattle.named.specs.Calls.{outcomeNamed}
-use Rattle.named.proofs.Made.{core-sound, names-sound}
-use Rattle.named.proofs.Translate.{lifted-outcome}
-use Rattle.policy_apply.specs.Apply.{createBy, addRules, thenAdd, applied}
+use Rattle.named.specs.Policy.{onNamed, addRules, thenAdd, applied}
+use Rattle.named.proofs.Made.{core-sound, names-sound, lift-goes}
 use Rattle.policy_written.proofs.Create.{create-passes}
 use Rattle.policy_written.proofs.Filled.{Raw}
 use Rattle.policy_written.proofs.Adds.{Fresh, Having, AllFit, all-added}
@@ -106,16 +104,16 @@ module _ (N : Named) (sound-now : namedSound N ≡ true) (working : level (N .co
     abbrev file : List ℕ
     file = written name L cs
 
-    after-create : outcomeNamed N (createBy bs) ≡ namedOutcome (Done made) begun
+    after-create : onNamed N (create-ruleset bs 0) ≡ namedOutcome (Done made) begun
     unfolding outcomeOf createDone
     after-create =
-        lifted-outcome N (create-ruleset bs 0) refl (names-sound N sound-now)
+        sym (lift-goes N (outcomeOf T (create-ruleset bs 0)) (names-sound N sound-now))
         ∙ ap (λ (o : Outcome). namedOutcome (o .reply) (withNames (o .left) (N .names))) is-created
 
     is-added : applied N file ≡ addRules made cs begun
     unfolding applied thenAdd
     is-added =
-        ap (λ (v : List ℕ). thenAdd (rulesOf (level (T .system)) file) (outcomeNamed N (createBy v) .reply) (outcomeNamed N (createBy v) .left)) (masks-read-back name L cs some short fit)
+        ap (λ (v : List ℕ). thenAdd (rulesOf (level (T .system)) file) (onNamed N (create-ruleset v 0) .reply) (onNamed N (create-ruleset v 0) .left)) (masks-read-back name L cs some short fit)
         ∙ ap (λ (o : NamedOutcome). thenAdd (rulesOf (level (T .system)) file) (o .reply) (o .left)) after-create
         ∙ ap (λ (l : List Rule). addRules made l begun) (rules-read-back name L cs some short fit (level (T .system)))
 

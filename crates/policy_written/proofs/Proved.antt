@@ -17,16 +17,22 @@ use Rattle.ruleset.specs.Create.{freeRuleset}
 use Rattle.theorems.specs.Calls.{isDone}
 use Rattle.policy.specs.Files.{placeOf}
 use Rattle.policy.specs.Find.{found, partOf}
+use Rattle.policy.specs.Meaning.{Rule}
+use Rattle.policy.specs.declared.File.{File}
+use Rattle.policy.specs.declared.File.the-variants.{Stock, Site}
+use Rattle.policy.specs.declared.Found.the-variants.{At}
+use Rattle.policy.specs.declared.Span.{Span}
 use Rattle.policy_write.specs.Chosen.{chosenPath}
 use Rattle.policy_write.specs.File.{fileRules, policyFile, writtenOver, writeChecks}
 use Rattle.policy_write.specs.Agree.{Agree}
+use Rattle.policy_write.proofs.Bytes.{FitAll}
 use Rattle.policy_write.proofs.Agreed.{Writable, rules-fit, equal-agree, agree-equal}
 use Rattle.policy_write.proofs.Reading.{found-site, found-stock, part-site, part-stock}
 use Rattle.named.specs.Named.{Named, namedSound, NamedOutcome, namedOutcome}
-use Rattle.named.proofs.Made.{named-cases}
-use Rattle.policy_apply.specs.Apply.{applied}
+use Rattle.named.proofs.Made.{named-goes, named-cases}
+use Rattle.named.specs.Policy.{applied, foundNumber, foundChecks, applyNamed}
 use Rattle.policy_written.specs.Write.{fileOf, writeNamed, writtenOut}
-use Rattle.policy_written.specs.Promise.{applyNamed, bytesOut, Restored, Fine, PolicyWritten}
+use Rattle.policy_written.specs.Promise.{bytesOut, Restored, Fine, PolicyWritten}
 use Rattle.policy_written.proofs.Sound.{Has, one-object, L, Goes, goes, writable}
 use Rattle.policy_written.proofs.Trip.{trip-done, trip-agree}
 
@@ -36,6 +42,11 @@ refused-done e n q = absurd (let z : _≡_ {A = ℕ} 0 1 = cc in omega arith)
 
 done-same : (a b : ℕ) → _≡_ {A = Reply} (Done a) (Done b) → a ≡ b
 done-same a b e = cc
+
+-- a name that is found is not refused
+checks-pass : (stock site name : List ℕ) (which : File) (s : Span) → found stock site name ≡ At which s → first (foundChecks stock site name) ≡ 0
+unfolding foundChecks foundNumber first
+checks-pass stock site name which s e = rw e
 
 module _ (N : Named) (r : ℕ) (name out : List ℕ) (n : ℕ) where
   record Success : Type 0 where
@@ -73,32 +84,30 @@ module _ (N : Named) (r : ℕ) (name out : List ℕ) (n : ℕ) where
     abbrev file : List ℕ
     file = fileOf N r name
 
+    abbrev qs : List Rule
+    qs = fileRules (chosenPath (N .core .entries) (N .names)) (L N h r .rules)
+
+    abbrev fit : FitAll qs
+    fit = rules-fit (chosenPath (N .core .entries) (N .names)) (Has N h) (one-object N h) (L N h r) W
+
     module _ (free : freeRuleset (N .core .rulesets) < maxRulesets) where
-      -- what comes of the file's part, however it was found
-      restored : (p : List ℕ) → p ≡ file → Restored N r (applied N p)
-      restored p q =
-          subst (λ (s : List ℕ). Restored N r (applied N s)) (sym q)
-          (record { number = freeRuleset (N .core .rulesets); done = trip-done N h r name out G free; same = trip-agree N h r name out G free })
-
-      site-part : (stock : List ℕ) → Fine stock → partOf stock file (found stock file name) ≡ file
-      unfolding policyFile
-      site-part stock f =
-          let qs = fileRules (chosenPath (N .core .entries) (N .names)) (L N h r .rules) in
-          let fit = rules-fit (chosenPath (N .core .entries) (N .names)) (Has N h) (one-object N h) (L N h r) W in
-          ap (partOf stock file) (found-site name (L N h r) qs (G .some) (G .short) fit stock (f .end) (f .small) (f .read) (G .not-big)) ∙ part-site name (L N h r) qs (G .some) (G .short) fit stock
-
-      stock-part : (site : List ℕ) → Fine site → length site ≤ placeOf site name → partOf file site (found file site name) ≡ file
-      unfolding policyFile
-      stock-part site f lacks =
-          let qs = fileRules (chosenPath (N .core .entries) (N .names)) (L N h r .rules) in
-          let fit = rules-fit (chosenPath (N .core .entries) (N .names)) (Has N h) (one-object N h) (L N h r) W in
-          ap (partOf file site) (found-stock name (L N h r) qs (G .some) (G .short) fit site (f .end) (f .small) (f .read) lacks (G .not-big)) ∙ part-stock name (L N h r) qs (G .some) (G .short) fit site
+      -- the files give the written one, found in either
+      applies : (stock site : List ℕ) (which : File) → found stock site name ≡ At which (record { at = 0; end = length file }) → partOf stock site (At which (record { at = 0; end = length file })) ≡ file
+          → Restored N r (applyNamed N stock site name)
+      unfolding applyNamed
+      applies stock site which f p =
+          let R : Restored N r (applied N file) = record { number = freeRuleset (N .core .rulesets); done = trip-done N h r name out G free; same = trip-agree N h r name out G free } in
+          let q : partOf stock site (found stock site name) ≡ file = ap (partOf stock site) f ∙ p in
+          subst (Restored N r) (named-goes N (foundChecks stock site name) (applied N (partOf stock site (found stock site name))) h (sym (checks-pass stock site name which _ f)) refl)
+          (subst (λ (s : List ℕ). Restored N r (applied N s)) (sym q) R)
 
       by-site : (stock : List ℕ) → Fine stock → Restored N r (applyNamed N stock (bytesOut N r name out n) name)
-      by-site stock f = restored _ (ap (λ (b : List ℕ). partOf stock b (found stock b name)) (wrote e) ∙ site-part stock f)
+      by-site stock f = subst (λ (b : List ℕ). Restored N r (applyNamed N stock b name)) (sym (wrote e)) (unfold policyFile in
+          applies stock file Site (found-site name (L N h r) qs (G .some) (G .short) fit stock (f .end) (f .small) (f .read) (G .not-big)) (part-site name (L N h r) qs (G .some) (G .short) fit stock))
 
       by-stock : (site : List ℕ) → Fine site → length site ≤ placeOf site name → Restored N r (applyNamed N (bytesOut N r name out n) site name)
-      by-stock site f lacks = restored _ (ap (λ (b : List ℕ). partOf b site (found b site name)) (wrote e) ∙ stock-part site f lacks)
+      by-stock site f lacks = subst (λ (b : List ℕ). Restored N r (applyNamed N b site name)) (sym (wrote e)) (unfold policyFile in
+          applies file site Stock (found-stock name (L N h r) qs (G .some) (G .short) fit site (f .end) (f .small) (f .read) lacks (G .not-big)) (part-stock name (L N h r) qs (G .some) (G .short) fit site))
 
 -- ---- two of them
 equals : (N : Named) (r s : ℕ) (name out other : List ℕ) (n m : ℕ) → writeNamed N r name out .reply ≡ Done n → writeNamed N s name other .reply ≡ Done m

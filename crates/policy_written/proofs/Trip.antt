@@ -29,7 +29,7 @@ use Rattle.policy_write.proofs.Agreed.{Writable, path-items, port-items, rules-
 use Rattle.policy_write.proofs.Chosen.{chosen-live, chosen-object}
 use Rattle.named.specs.Named.{Named, namedSound, NamedOutcome}
 use Rattle.named.proofs.Made.{core-sound, names-sound}
-use Rattle.policy_apply.specs.Apply.{applied}
+use Rattle.named.specs.Policy.{applied}
 use Rattle.policy_written.proofs.Filled.{Raw, New, Filled, filled-in, filled-of}
 use Rattle.policy_written.proofs.Adds.{Fresh, PathFits, PortFits, Fitting, AllFit}
 use Rattle.policy_written.proofs.Sound.{Has, one-object, path-leads, L, Goes, writable, allowed, in-file-set, masks-fit, level-knows, has-masks, few-rules, keys, path-rule, port-rule}
