@@ -126,3 +126,7 @@ module _ (es : List ℕ) (o : ℕ) where
         split (leb maxEntries (chosenBelow es ns o maxEntries))
         (λ none. clash (isEntryOf es o e) (entry-of e a q) (choice maxEntries (omega arith) .1 (leb-true maxEntries _ none) e l))
         (λ some. leb-false maxEntries _ some)
+
+    -- an object's only entry is the chosen one
+    pub chosen-only : (e : ℕ) → e < maxEntries → live es e ≡ true → object es e ≡ o → ((f : ℕ) → live es f ≡ true → object es f ≡ o → f ≡ e) → chosen es ns o ≡ e
+    chosen-only e l a q only = let h = chosen-some e l a q in only (chosen es ns o) (chosen-live h) (chosen-object h)

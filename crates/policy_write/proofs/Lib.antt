@@ -7,3 +7,4 @@ pub mod Reading
 pub mod Chosen
 pub mod Keys
 pub mod Agreed
+pub mod Examples
