@@ -1,10 +1,10 @@
 -- Worked files, computed: what the definitions say of those that are easily got wrong. Assumes nothing.
 use mathlib.Core.Path.{_≡_, refl}
 use mathlib.Core.Bool.{true, false, cond}
-use mathlib.Core.List.{List, [], _∷_, _++_, map}
+use mathlib.Core.List.{List, [], _∷_, map}
 use Prim.Native.Nat.{ℕ}
 use lib.Dec.{eqb}
-use lib.ListN.{length, replicate}
+use lib.ListN.{replicate}
 use Rattle.laws.specs.Tests.{anyBelow}
 use Rattle.laws.specs.Cells.{copied}
 use Rattle.laws.specs.Refusals.{first}
@@ -19,6 +19,7 @@ use Rattle.policy.specs.Meaning.{Rule, path, port}
 use Rattle.policy_write.specs.Order.{earlier, lesser, next, onward, rising}
 use Rattle.policy_write.specs.Chosen.{isEntryOf, goesFirst, chosenBelow, chosen, chosenPath}
 use Rattle.policy_write.specs.Written.{bytesOf, fieldBytes, ruleBytes, rulesBytes, masksBytes, written}
+use Rattle.policy_write.specs.Example.{bytesOfA}
 use Rattle.policy_write.specs.File.{keyedBelow, byPath, onPath, onPort, pathRules, portRules, fileRules, policyFile, writtenOver, anyPath, writeForm, writeRules, writeRoom}
 
 -- ---- document 01's tree: 1 /cal and 2 /import, 3 /cal/table and 4 /import/feed. Of each table as many cells as are used: past its end all cells read as 0
@@ -32,22 +33,10 @@ names = putName (putName (putName (putName (replicate 245 0) 1 (99 ∷ 97 ∷ 10
 abbrev rulesets : List ℕ
 rulesets = 8486 ∷ 0 ∷ 0 ∷ 2 ∷ 1 ∷ 1 ∷ 4 ∷ 1 ∷ 2 ∷ 8486 ∷ []
 
--- "in hex: 01 01 00 70, 02 18 00 26 21 and 22 zeros, 03 0C 00 04 and 7 zeros and "/cal", 03 0F 00 26 21 and 6 zeros and "/import""
-abbrev pub bytesOfA : List ℕ
-bytesOfA =
-    (0x01 ∷ 0x01 ∷ 0x00 ∷ 0x70 ∷ [])
-    ++ ((0x02 ∷ 0x18 ∷ 0x00 ∷ 0x26 ∷ 0x21 ∷ replicate 22 0)
-    ++ ((0x03 ∷ 0x0c ∷ 0x00 ∷ 0x04 ∷ replicate 7 0) ++ ((47 ∷ 99 ∷ 97 ∷ 108 ∷ [])
-    ++ ((0x03 ∷ 0x0f ∷ 0x00 ∷ 0x26 ∷ 0x21 ∷ replicate 6 0) ++ (47 ∷ 105 ∷ 109 ∷ 112 ∷ 111 ∷ 114 ∷ 116 ∷ [])))))
-
 pub file-of-A : policyFile entries rulesets names 0 (112 ∷ []) ≡ bytesOfA
 unfolding copied live rulesetAt rowAt nameOf putName pathUp pathOf earlier lesser next onward rising isEntryOf goesFirst chosenBelow chosen chosenPath
     bytesOf fieldBytes ruleBytes rulesBytes masksBytes written keyedBelow byPath onPath onPort pathRules portRules fileRules policyFile
 file-of-A = refl
-
--- "gives 64 bytes"
-pub size-of-A : length bytesOfA ≡ 64
-size-of-A = refl
 
 -- ---- byte order of whole paths: "/a-b" goes before "/a/b", "/a" before "/a-b", "/a/b" before "/b"
 pub orders : map (earlier (47 ∷ 97 ∷ 45 ∷ 98 ∷ [])) ((47 ∷ 97 ∷ 47 ∷ 98 ∷ []) ∷ (47 ∷ 97 ∷ []) ∷ (47 ∷ 97 ∷ 45 ∷ 98 ∷ []) ∷ (47 ∷ 98 ∷ []) ∷ []) ≡ true ∷ false ∷ false ∷ true ∷ []

@@ -1,4 +1,5 @@
 -- The laws of writing a policy file.
+pub mod Examples
 pub mod Lists
 pub mod Strict
 pub mod Rising
@@ -7,4 +8,3 @@ pub mod Reading
 pub mod Chosen
 pub mod Keys
 pub mod Agreed
-pub mod Examples

@@ -4,3 +4,4 @@ pub mod Chosen
 pub mod Written
 pub mod File
 pub mod Agree
+pub mod Example

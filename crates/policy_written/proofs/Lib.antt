@@ -6,3 +6,4 @@ pub mod Applied
 pub mod Sound
 pub mod Trip
 pub mod Proved
+pub mod Example

@@ -1,3 +1,4 @@
 -- Writing a policy file, as a call, and what is promised of it.
 pub mod Write
 pub mod Promise
+pub mod Example

@@ -54,7 +54,7 @@ use Rattle.starred_named.proofs.Scan.{scan, takenFast, bearerFast, take
 use Rattle.starred_named.specs.Starred.{Case, cases, given, Starred}
 
 -- what a call answers and leaves, with no test of soundness; a call that stands in no case is as it was
-unfoldable bare : Tables → Call → Outcome
+unfoldable pub bare : Tables → Call → Outcome
 bare T (create-ruleset bs flags) = answer T (createChecks T bs flags) (createDone T bs)
 bare T (add-path-rule r e rights flags) = answer T (addPathChecks T r e rights flags) (addDone T r pathRule (object (T .entries) e) rights)
 bare T (restrict t r flags) = answer T (restrictChecks T t r flags) (restrictDone T t r)
@@ -75,22 +75,22 @@ bare T (Call.rename t s d x) = outcomeOf T (Call.rename t s d x)
 bare T (Call.exchange t s d x) = outcomeOf T (Call.exchange t s d x)
 
 -- the checks, with the bearer of the name looked for in one pass
-unfoldable newFast : Named → ℕ → List ℕ → List Check
+unfoldable pub newFast : Named → ℕ → List ℕ → List Check
 newFast N d n = nameChecks n ++ (takenFast (N .core .entries) (N .names) d n ⇒ EEXIST ∷ [])
 
-unfoldable createFast : Named → ℕ → ℕ → ℕ → List ℕ → List Check
+unfoldable pub createFast : Named → ℕ → ℕ → ℕ → List ℕ → List Check
 createFast N t d k n =
     (createTarget (N .core .entries) (N .core .threads) t d ++ newFast N d n) ++ ((unknownKind k ⇒ EINVAL ∷ []) ++ (createVerdict (N .core) t d k ++ createLater (N .core)))
 
-unfoldable linkFast : Named → ℕ → ℕ → ℕ → List ℕ → List Check
+unfoldable pub linkFast : Named → ℕ → ℕ → ℕ → List ℕ → List Check
 linkFast N t s d n =
     (linkTarget (N .core .entries) (N .core .threads) t s d ++ newFast N d n) ++ ((isDir (N .core .entries) s ⇒ EPERM ∷ []) ++ (linkVerdict (N .core) t s d ++ linkLater (N .core)))
 
-unfoldable renameFast : Named → ℕ → ℕ → ℕ → List ℕ → Replaced → List Check
+unfoldable pub renameFast : Named → ℕ → ℕ → ℕ → List ℕ → Replaced → List Check
 renameFast N t s d n x =
     renameBefore (N .core) t s d n ++ ((isAbove (N .core .entries) s d ⇒ EINVAL ∷ []) ++ (renameVerdict (N .core) t s d x ++ renameLater (N .core .entries) s x))
 
-unfoldable played : Named → NamedCall → NamedOutcome
+unfoldable pub played : Named → NamedCall → NamedOutcome
 played N (lifted c q) = let o = bare (N .core) c in namedOutcome (o .reply) (withNames (o .left) (N .names))
 played N (create t d k n) =
     judgedBy (namingEntry (N .core) t d (makeOf (kindOf k)))
@@ -160,11 +160,11 @@ same N (batch rs ns xs) h = refl
 same N (apply stock site name) h = refl
 
 -- a list of calls played
-unfoldable playedAll : Named → List NamedCall → Named
+unfoldable pub playedAll : Named → List NamedCall → Named
 playedAll N [] = N
 playedAll N (c ∷ cs) = playedAll (played N c .left) cs
 
-same-all : (N : Named) (cs : List NamedCall) → namedSound N ≡ true → allNamed N cs ≡ playedAll N cs
+pub same-all : (N : Named) (cs : List NamedCall) → namedSound N ≡ true → allNamed N cs ≡ playedAll N cs
 unfolding allNamed playedAll
 same-all N [] h = refl
 same-all N (c ∷ cs) h = same-all (afterNamed N c) cs (kept N c h) ∙ ap (λ o. playedAll (o .left) cs) (same N c h)
