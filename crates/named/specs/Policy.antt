@@ -14,7 +14,7 @@ use Rattle.theorems.specs.Calls.{Call, create-ruleset, close-ruleset, add-path-
 use Rattle.names.specs.Paths.{pathChecks, found}
 use Rattle.policy.specs.Find.{partOf}
 use Rattle.policy.specs.Find as files
-use Rattle.policy.specs.Meaning.{Rule, path, port, rulesOf, masksOf}
+use Rattle.policy.specs.Meaning.{Rule, path, port, rulesOf, attribute}
 use Rattle.policy.specs.declared.File.{File}
 use Rattle.policy.specs.declared.File.the-variants.{Stock, Site}
 use Rattle.policy.specs.declared.Found.{Found}
@@ -58,7 +58,10 @@ thenAdd rules (Denied e l s) N = namedOutcome (Denied e l s) N
 
 -- a ruleset's part of a file, applied
 unfoldable pub applied : Named → List ℕ → NamedOutcome
-applied N s = let o = onNamed N (create-ruleset (masksOf s) 0) in thenAdd (rulesOf (level (N .core .system)) s) (o .reply) (o .left)
+applied N s =
+    let l = level (N .core .system) in
+    let o = onNamed N (create-ruleset (attribute l s) 0) in
+    thenAdd (rulesOf l s) (o .reply) (o .left)
 
 -- ---- the ruleset of a name in the two files
 -- what the files or the name refuse: "one over 32,768 bytes is E2BIG", "Anything else is EBADMSG", "Neither has it: ENOENT"

@@ -5,12 +5,13 @@ use mathlib.Core.List.{List, [], _∷_, _++_, map}
 use Prim.Native.Nat.{ℕ, zero, suc}
 use lib.ListN.{length, replicate}
 use Rattle.names.specs.Names.{sameBytes}
+use Rattle.access.specs.Rights.{knownFs, knownNet, knownScope}
 use Rattle.ruleset.specs.Attribute.{number}
-use Rattle.policy.specs.Fields.{size, tagOf, cut, pieces}
-use Rattle.policy.specs.Grammar.{andThen, each, tested, isRule, isLevel, plain, groupOr, rule}
+use Rattle.policy.specs.Fields.{bytesOf, size, tagOf, cut, pieces}
+use Rattle.policy.specs.Grammar.{maxDepth, andThen, each, tested, isRule, isLevel, plain, groupOr, rule}
 use Rattle.policy.specs.Files.{opens, firstPlace, isName, isMasks, allowed, readFrom, readFile}
 use Rattle.policy.specs.Find.{isOpening, spanOf, whole, checked, hasOr, found, bytesIn, partOf}
-use Rattle.policy.specs.Meaning.{Rule, path, port, ruleOf, collect, countedIn, counted, anyGroup, second, masksOf}
+use Rattle.policy.specs.Meaning.{Rule, path, port, ruleOf, collect, countedIn, counted, anyGroup, second, masksOf, cutMask, cutMasks, attribute}
 use Rattle.policy.specs.declared.Read.{Read}
 use Rattle.policy.specs.declared.Read.the-variants.{Next, Fault}
 use Rattle.policy.specs.declared.File.the-variants.{Stock, Site}
@@ -86,9 +87,9 @@ unfolding sameBytes size tagOf cut pieces andThen tested isRule plain groupOr ru
 faulty-start = refl
 
 -- ---- groups
--- how fields are read where 8 groups may nest
+-- how the fields of a ruleset are read
 abbrev fields : List ℕ → Read
-fields xs = each (rule 8) 0 (pieces xs)
+fields xs = each (rule maxDepth) 0 (pieces xs)
 
 -- n groups, one in another, with the lowest level 1
 unfoldable pub nested : ℕ → List ℕ
@@ -110,6 +111,12 @@ pub faulty-inside : map fields (bytes 5 (6 ∷ bytes 3 (replicate 7 0)) ∷ (byt
 unfolding size cut pieces andThen each tested isRule isLevel plain groupOr rule nested
 faulty-inside = refl
 
+-- in a whole file: 8 groups behind a ruleset's masks; the ninth, at its place; a field that is longer than its group
+pub grouped-files :
+    map (λ x. readFile (named ++ x)) (nested 8 ∷ nested 9 ∷ (bytes 5 (6 ∷ 3 ∷ 9 ∷ 0 ∷ []) ++ replicate 9 0) ∷ []) ≡ Next 63 ∷ Fault 63 ∷ Fault 35 ∷ []
+unfolding sameBytes size tagOf cut pieces andThen each tested isRule isLevel plain groupOr rule opens firstPlace isName isMasks allowed readFrom readFile nested
+grouped-files = refl
+
 -- ---- what a name means
 abbrev found-in : List ℕ → List ℕ → Found
 found-in stock site = found stock site (112 ∷ [])
@@ -126,7 +133,7 @@ parts = refl
 
 -- ---- what a ruleset's part says
 abbrev rules-at : ℕ → List ℕ → List Rule
-rules-at level s = collect (counted 8 level) (pieces s)
+rules-at level s = collect (counted maxDepth level) (pieces s)
 
 abbrev cal : Rule
 cal = path 4 (47 ∷ [])
@@ -149,3 +156,14 @@ masks-first = refl
 pub with-groups : map (λ s. anyGroup (pieces s)) ((named ++ onPath) ∷ (named ++ bytes 5 (6 ∷ [])) ∷ []) ≡ false ∷ true ∷ []
 unfolding size tagOf cut pieces anyGroup
 with-groups = refl
+
+-- every bit of the first two bytes of each mask, and at level 3 those that are left with a group: TRUNCATE, and bits that no level knows; neither
+-- without a group nor at level 6 is any lost
+abbrev full : List ℕ
+full = opener ++ bytes 2 (255 ∷ 255 ∷ 1 ∷ 0 ∷ 0 ∷ 0 ∷ 0 ∷ 128 ∷ 255 ∷ replicate 7 0 ++ (7 ∷ replicate 7 0))
+
+pub attributes :
+    attribute 3 (full ++ bytes 5 (6 ∷ [])) ∷ attribute 3 (full ++ onPath) ∷ attribute 6 (full ++ bytes 5 (6 ∷ [])) ∷ []
+    ≡ (255 ∷ 127 ∷ 1 ∷ 0 ∷ 0 ∷ 0 ∷ 0 ∷ 128 ∷ 252 ∷ replicate 7 0 ++ (4 ∷ replicate 7 0)) ∷ masksOf full ∷ masksOf full ∷ []
+unfolding knownFs knownNet knownScope number bytesOf size tagOf cut pieces anyGroup second masksOf cutMask cutMasks attribute
+attributes = refl

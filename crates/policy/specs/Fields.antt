@@ -1,7 +1,7 @@
 -- Request W4: "Each field is a one-byte tag and a two-byte little-endian length, then the value". A list of bytes as fields.
 use mathlib.Core.Bool.{cond}
 use mathlib.Core.List.{List, [], _∷_}
-use Prim.Native.Nat.{ℕ, zero, suc, _+_, _*_}
+use Prim.Native.Nat.{ℕ, zero, suc, _+_, _*_, _/_, _%_}
 use lib.Dec.{leb}
 use lib.ListN.{length, getD, take, drop}
 
@@ -28,6 +28,11 @@ header = 3
 -- and the level of a group
 abbrev pub groupHeader : ℕ
 groupHeader = 4
+
+-- "little-endian": n bytes of a number, the lowest first
+unfoldable pub bytesOf : ℕ → ℕ → List ℕ
+bytesOf zero x = []
+bytesOf (suc n) x = x % 256 ∷ bytesOf n (x / 256)
 
 -- a whole field, by its tag and its value; or the bytes at the end that are none
 pub data Piece : Type 0 where

@@ -9,9 +9,9 @@ use Rattle.policy.specs.Fields.{pathTag, portTag, groupTag, groupHeader,
 use Rattle.policy.specs.declared.Read.{Read}
 use Rattle.policy.specs.declared.Read.the-variants.{Next, Fault}
 
--- how many groups may stand inside one another: none before request W7
+-- "Groups nest at most 8 deep"
 abbrev pub maxDepth : ℕ
-maxDepth = 0
+maxDepth = 8
 
 -- "8-byte rights"
 abbrev pub rightsSize : ℕ

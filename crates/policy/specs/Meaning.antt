@@ -4,8 +4,10 @@ use mathlib.Core.List.{List, [], _∷_, _++_}
 use Prim.Native.Nat.{ℕ, zero, suc}
 use lib.Dec.{eqb, leb}
 use lib.ListN.{getD, drop}
-use Rattle.ruleset.specs.Attribute.{number}
-use Rattle.policy.specs.Fields.{pathTag, portTag, groupTag, Piece, field, stray, tagOf, pieces}
+use Rattle.access.specs.Limits.{maxLevel}
+use Rattle.access.specs.Rights.{without, knownFs, knownNet, knownScope}
+use Rattle.ruleset.specs.Attribute.{number, fsMask, netMask, scopeMask}
+use Rattle.policy.specs.Fields.{pathTag, portTag, groupTag, bytesOf, Piece, field, stray, tagOf, pieces}
 use Rattle.policy.specs.Grammar.{maxDepth, rightsSize}
 
 -- "a path rule (8-byte rights, then the path)", "a port rule (8-byte rights, 2-byte port, both little-endian)"
@@ -55,3 +57,20 @@ second (p ∷ field t v ∷ ps) = v
 
 unfoldable pub masksOf : List ℕ → List ℕ
 masksOf s = second (pieces s)
+
+-- ---- "no mask bits that only higher levels know"
+-- a mask without the bits that some level knows and this one does not; those that no level knows stay
+unfoldable pub cutMask : (ℕ → ℕ) → ℕ → ℕ → ℕ
+cutMask known level m = without m (without (known maxLevel) (known level))
+
+-- the three masks, each cut
+unfoldable pub cutMasks : ℕ → List ℕ → List ℕ
+cutMasks level v =
+    let fs = cutMask knownFs level (fsMask v) in
+    let net = cutMask knownNet level (netMask v) in
+    let scope = cutMask knownScope level (scopeMask v) in
+    bytesOf 8 fs ++ (bytesOf 8 net ++ bytesOf 8 scope)
+
+-- the attribute of the create, cut "in a ruleset with groups"; the rights of rules are not
+unfoldable pub attribute : ℕ → List ℕ → List ℕ
+attribute level s = cond (anyGroup (pieces s)) (cutMasks level (masksOf s)) (masksOf s)

@@ -26,7 +26,7 @@ pub const RIGHTS_SIZE: usize = 8;
 // The bytes of a port rule.
 pub const PORT_SIZE: usize = 10;
 // How many groups may stand inside one another.
-pub const MAX_DEPTH: usize = 0;
+pub const MAX_DEPTH: usize = 8;
 
 // A part of a file, from a place up to another.
 pub struct Span {

@@ -1,2 +1,4 @@
--- The second field of a ruleset's part.
+-- A ruleset's masks, its groups, and masks that are cut.
 pub mod Second
+pub mod Groups
+pub mod Cut

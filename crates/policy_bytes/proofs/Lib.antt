@@ -1,0 +1,2 @@
+-- Bytes written one after another.
+pub mod Puts
