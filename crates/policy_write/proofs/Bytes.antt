@@ -11,12 +11,12 @@ use Rattle.access.specs.Limits.{maxPort}
 use Rattle.tables.specs.Layers.{Layer}
 use Rattle.ruleset.specs.Attribute.{number, fsMask, netMask, scopeMask}
 use Rattle.names.specs.Paths.{maxPath}
-use Rattle.policy.specs.Fields.{rulesetTag, masksTag, pathTag, portTag, Piece, field, pieces}
+use Rattle.policy.specs.Fields.{bytesOf, rulesetTag, masksTag, pathTag, portTag, Piece, field, pieces}
 use Rattle.policy.specs.Files.{maxRulesetName, masksSize}
 use Rattle.policy.specs.Grammar.{rightsSize, portSize}
 use Rattle.policy.specs.Meaning.{Rule, path, port}
 use Rattle.policy.proofs.Pieces.{pieces-nil, pieces-whole}
-use Rattle.policy_write.specs.Written.{bytesOf, fieldBytes, ruleBytes, rulesBytes, masksBytes, written}
+use Rattle.policy_write.specs.Written.{fieldBytes, ruleBytes, rulesBytes, masksBytes, written}
 
 -- ---- numbers
 pub length-bytes : (n x : ℕ) → length (bytesOf n x) ≡ n

@@ -18,7 +18,8 @@ use Rattle.names.specs.Paths.{pathUp, pathOf}
 use Rattle.policy.specs.Meaning.{Rule, path, port}
 use Rattle.policy_write.specs.Order.{earlier, lesser, next, onward, rising}
 use Rattle.policy_write.specs.Chosen.{isEntryOf, goesFirst, chosenBelow, chosen, chosenPath}
-use Rattle.policy_write.specs.Written.{bytesOf, fieldBytes, ruleBytes, rulesBytes, masksBytes, written}
+use Rattle.policy.specs.Fields.{bytesOf}
+use Rattle.policy_write.specs.Written.{fieldBytes, ruleBytes, rulesBytes, masksBytes, written}
 use Rattle.policy_write.specs.Example.{bytesOfA}
 use Rattle.policy_write.specs.File.{keyedBelow, byPath, onPath, onPort, pathRules, portRules, fileRules, policyFile, writtenOver, anyPath, writeForm, writeRules, writeRoom}
 

@@ -12,11 +12,11 @@ use Rattle.laws.specs.Cells.{part}
 use Rattle.tables.specs.Layers.{Layer}
 use Rattle.ruleset.specs.Attribute.{number, fsMask, netMask, scopeMask}
 use Rattle.names.proofs.Bytes.{bytes-same}
-use Rattle.policy.specs.Fields.{rulesetTag, masksTag, groupTag, header, Piece, field, stray, size, tagOf, pieces}
+use Rattle.policy.specs.Fields.{bytesOf, rulesetTag, masksTag, groupTag, header, Piece, field, stray, size, tagOf, pieces}
 use Rattle.policy.specs.Grammar.{maxDepth, rightsSize, portSize, andThen, tested, isRule, rule}
 use Rattle.policy.specs.Files.{maxRulesetName, masksSize, opens, firstPlace, placeOf, isName, isMasks, allowed, readFrom, readFile}
 use Rattle.policy.specs.Find.{maxFile, isOpening, nextRuleset, spanOf, whole, checked, hasOr, found, bytesIn, partOf}
-use Rattle.policy.specs.Meaning.{Rule, path, port, ruleOf, collect, countedIn, counted, rulesOf, anyGroup, second, masksOf}
+use Rattle.policy.specs.Meaning.{Rule, path, port, ruleOf, collect, countedIn, counted, rulesOf, anyGroup, second, masksOf, attribute}
 use Rattle.policy.specs.declared.Read.the-variants.{Next, Fault}
 use Rattle.policy.specs.declared.File.{File}
 use Rattle.policy.specs.declared.File.the-variants.{Stock, Site}
@@ -25,7 +25,7 @@ use Rattle.policy.specs.declared.Found.the-variants.{At, Missing}
 use Rattle.policy.proofs.Parts.{part-all}
 use Rattle.policy.proofs.Pieces.{sizes, pieces-sizes}
 use Rattle.policy.proofs.Grammar.{rule-other}
-use Rattle.policy_write.specs.Written.{bytesOf, fieldBytes, rulesBytes, masksBytes, written}
+use Rattle.policy_write.specs.Written.{fieldBytes, rulesBytes, masksBytes, written}
 use Rattle.policy_write.proofs.Bytes.{length-bytes, number-at, MasksFit, length-masks, fs-back, net-back, scope-back, Fits, FitAll, tagIn, valueIn, fieldsOf, length-port, length-path, masks-pieces, written-pieces}
 
 -- ---- a rule's tag is no other one
@@ -158,6 +158,11 @@ module _ (name : List ℕ) (L : Layer) (qs : List Rule) (some : 1 ≤ length nam
   pub no-group-written : anyGroup (pieces file) ≡ false
   unfolding anyGroup tagOf
   no-group-written = rw parts (no-groups qs)
+
+  -- so its masks are not cut
+  pub attribute-read-back : (level : ℕ) → attribute level file ≡ masksBytes L
+  unfolding attribute
+  attribute-read-back level = rw no-group-written masks-read-back
 
   -- the name means the whole file
   after-name : part file (0 + header + length name) (length file) ≡ fieldBytes masksTag (masksBytes L) ++ rulesBytes qs

@@ -1,16 +1,11 @@
 -- Request W12, "write the W4 file": the bytes of a file with one ruleset and no groups.
 use mathlib.Core.List.{List, [], _∷_, _++_}
-use Prim.Native.Nat.{ℕ, zero, suc, _/_, _%_}
+use Prim.Native.Nat.{ℕ, _/_, _%_}
 use lib.ListN.{length}
 use Rattle.tables.specs.Layers.{Layer}
-use Rattle.policy.specs.Fields.{rulesetTag, masksTag, pathTag, portTag}
+use Rattle.policy.specs.Fields.{bytesOf, rulesetTag, masksTag, pathTag, portTag}
 use Rattle.policy.specs.Grammar.{rightsSize}
 use Rattle.policy.specs.Meaning.{Rule, path, port}
-
--- "little-endian": n bytes of a number, the lowest first
-unfoldable pub bytesOf : ℕ → ℕ → List ℕ
-bytesOf zero x = []
-bytesOf (suc n) x = x % 256 ∷ bytesOf n (x / 256)
 
 -- "a one-byte tag and a two-byte little-endian length, then the value"
 unfoldable pub fieldBytes : ℕ → List ℕ → List ℕ

@@ -27,7 +27,7 @@ use Rattle.policy.specs.Files.{maxRulesetName}
 use Rattle.policy.specs.Meaning.{Rule, rulesOf}
 use Rattle.policy_write.specs.Written.{masksBytes, written}
 use Rattle.policy_write.proofs.Bytes.{MasksFit, FitAll, fs-back, net-back, scope-back}
-use Rattle.policy_write.proofs.Reading.{rules-read-back, masks-read-back}
+use Rattle.policy_write.proofs.Reading.{rules-read-back, attribute-read-back}
 use Rattle.named.specs.Named.{Named, withNames, namedSound, NamedOutcome, namedOutcome}
 use Rattle.named.specs.Policy.{onNamed, addRules, thenAdd, applied}
 use Rattle.named.proofs.Made.{core-sound, names-sound, lift-goes}
@@ -113,7 +113,7 @@ module _ (N : Named) (sound-now : namedSound N ≡ true) (working : level (N .co
     is-added : applied N file ≡ addRules made cs begun
     unfolding applied thenAdd
     is-added =
-        ap (λ (v : List ℕ). thenAdd (rulesOf (level (T .system)) file) (onNamed N (create-ruleset v 0) .reply) (onNamed N (create-ruleset v 0) .left)) (masks-read-back name L cs some short fit)
+        ap (λ (v : List ℕ). thenAdd (rulesOf (level (T .system)) file) (onNamed N (create-ruleset v 0) .reply) (onNamed N (create-ruleset v 0) .left)) (attribute-read-back name L cs some short fit (level (T .system)))
         ∙ ap (λ (o : NamedOutcome). thenAdd (rulesOf (level (T .system)) file) (o .reply) (o .left)) after-create
         ∙ ap (λ (l : List Rule). addRules made l begun) (rules-read-back name L cs some short fit (level (T .system)))
 

@@ -20,7 +20,8 @@ use Rattle.tables.specs.Layers.{Layer, handlesAny}
 use Rattle.sound_rules.specs.Rules.{masksKnown}
 use Rattle.ruleset.specs.Attribute.{knownSize, strayByte, stray}
 use Rattle.ruleset.specs.Create.{createChecks, createForm, createMasks, freeRuleset}
-use Rattle.policy_write.specs.Written.{bytesOf, masksBytes}
+use Rattle.policy.specs.Fields.{bytesOf}
+use Rattle.policy_write.specs.Written.{masksBytes}
 use Rattle.policy_write.proofs.Bytes.{length-bytes, MasksFit, length-masks, fs-back, net-back, scope-back}
 
 -- the bytes of 0

@@ -38,7 +38,8 @@ use Rattle.names.specs.Paths.{maxPath, pathUp, pathOf}
 use Rattle.policy.specs.Meaning.{Rule, path}
 use Rattle.policy_write.specs.Order.{Keyed, earlier, all, lesser, next, onward, rising}
 use Rattle.policy_write.specs.Chosen.{chosen, chosenPath}
-use Rattle.policy_write.specs.Written.{bytesOf, fieldBytes, ruleBytes, rulesBytes, masksBytes, written}
+use Rattle.policy.specs.Fields.{bytesOf}
+use Rattle.policy_write.specs.Written.{fieldBytes, ruleBytes, rulesBytes, masksBytes, written}
 use Rattle.policy_write.specs.File.{keyedBelow, keyed, byPath, onPath, onPort, pathRules, portRules, fileRules, policyFile, writtenOver, anyPath, writeForm, writeRules, writeRoom, writeChecks}
 use Rattle.policy_write.specs.Example.{nameOfA, cal, imported, bytesOfA}
 use Rattle.policy_write.proofs.Chosen.{chosen-only}
