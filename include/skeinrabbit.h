@@ -287,6 +287,10 @@ struct skein_report {
 #define SKEIN_POLICY_MASKS 2
 #define SKEIN_POLICY_PATH_RULE 3
 #define SKEIN_POLICY_PORT_RULE 4
+#define SKEIN_POLICY_GROUP 5
+
+/* Groups of a policy file that stand inside one another. */
+#define SKEIN_MAX_POLICY_GROUPS 8
 
 /*
  * What is said of policy files beside the answer:
@@ -495,8 +499,9 @@ static inline int64_t skeinrabbit_find_policy(const void *stock, size_t stock_si
 /*
  * Opens a ruleset as policy files have it under a name; answers its number. It makes the calls that the ruleset's part says, in the
  * order of the file and without flags: skeinrabbit_create_ruleset with its three masks, skeinrabbit_lookup and skeinrabbit_add_path_rule
- * for a path rule, skeinrabbit_add_port_rule for a port rule. The first call that is refused ends it, and the ruleset is closed again:
- * then no cell has changed.
+ * for a path rule, skeinrabbit_add_port_rule for a port rule. Rules in a group are added only if the level reaches the group's number
+ * and those of the groups around it; if the ruleset has a group, counted or not, mask bits that only higher levels know are left out.
+ * The first call that is refused ends it, and the ruleset is closed again: then no cell has changed.
  * What skeinrabbit_find_policy refuses; then what those calls refuse, in their order.
  */
 static inline int64_t skeinrabbit_apply_policy(struct skein_tables *t, const void *stock, size_t stock_size, const void *site,

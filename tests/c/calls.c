@@ -522,6 +522,33 @@ static void found_policies(const uint8_t *stock, size_t stock_size, const uint8_
 	expect("cell past a short report", (int64_t)cells[2], 31);
 }
 
+/* A ruleset whose masks and rules depend on the level: of level 6 there is a group that grants reading. */
+static void groups(struct skein_tables *t)
+{
+	static uint8_t file[128];
+	static struct skein_tables lower;
+	struct skein_policy_report r;
+	const size_t size = put_ruleset(file, 0, 'g', SKEIN_FS_READ_FILE);
+	const size_t end = put_path_rule(file, size + 4, "/cal");
+
+	file[size] = SKEIN_POLICY_GROUP;
+	file[size + 1] = (uint8_t)(end - size - 3);
+	file[size + 3] = 6;
+	/* A scope, which only level 6 knows. */
+	file[4 + 3 + 16] = SKEIN_SCOPE_SIGNAL;
+	expect_policy("apply_policy, a group", skeinrabbit_apply_policy(t, file, end, NULL, 0, "g", 1, &r), 2, &r, 0, 0, 50);
+	expect("its scopes", (int64_t)t->rulesets[2 * SKEIN_RULESET_CELLS + 2], SKEIN_SCOPE_SIGNAL);
+	expect("its rules", (int64_t)t->rulesets[2 * SKEIN_RULESET_CELLS + 3], 1);
+	expect("close_ruleset", skeinrabbit_close_ruleset(t, 2), 0);
+	expect("fresh", skeinrabbit_fresh(&lower, 5), 0);
+	expect_policy("apply_policy, level 5", skeinrabbit_apply_policy(&lower, file, end, NULL, 0, "g", 1, &r), 0, &r, 0, 0, 50);
+	expect("its scopes", (int64_t)lower.rulesets[2], 0);
+	expect("its rules", (int64_t)lower.rulesets[3], 0);
+	file[size + 3] = SKEIN_MAX_LEVEL + 1;
+	expect_policy("apply_policy, level of a group", skeinrabbit_apply_policy(t, file, end, NULL, 0, "g", 1, &r), -SKEIN_EBADMSG, &r, 0,
+		      (uint64_t)size, 0);
+}
+
 /* Policy files, on the worked tree. */
 static void policy_files(struct skein_tables *t)
 {
@@ -542,6 +569,7 @@ static void policy_files(struct skein_tables *t)
 	expect("its object", (int64_t)t->rulesets[5], 1);
 	expect_policy("apply_policy, both", skeinrabbit_apply_policy(t, stock, stock_size, site, site_size, "q", 1, &r), 1, &r, 1, 0, 31);
 	expect("its masks", (int64_t)t->rulesets[SKEIN_RULESET_CELLS], SKEIN_FS_WRITE_FILE);
+	groups(t);
 	before = *t;
 	expect_policy("apply_policy, neither", skeinrabbit_apply_policy(t, stock, stock_size, site, site_size, "x", 1, &r), -SKEIN_ENOENT, &r,
 		      0, 0, 0);

@@ -413,7 +413,9 @@ impl<B: Broker> Session<'_, B> {
                 tally.count_batch(batch, answer, self.pair.reference.model().ok());
             }
             (Step::FindPolicy(wanted) | Step::ApplyPolicy(wanted), Some(answer)) => {
-                tally.count_policy(step.name().unwrap_or_default(), wanted, answer);
+                let model = self.pair.reference.model().unwrap_or(&self.case.start);
+                let name = step.name().unwrap_or_default();
+                tally.count_policy(name, wanted, answer, model.level);
             }
             _ => {}
         }

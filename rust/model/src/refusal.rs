@@ -192,6 +192,13 @@ refusals! {
     PathRuleTooShort EBADMSG;
     PortRuleSize EBADMSG;
     UnknownTag EBADMSG;
+    /// A ninth group inside eight others.
+    GroupTooDeep EBADMSG;
+    GroupWithoutLevel EBADMSG;
+    /// A group's level is none of 1 to 6.
+    GroupLevel EBADMSG;
+    /// A ruleset is opened inside a group.
+    RulesetInGroup EBADMSG;
     /// Neither policy file has a ruleset of the name.
     NoSuchRuleset ENOENT;
 }

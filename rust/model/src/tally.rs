@@ -5,6 +5,7 @@ use crate::batch::{Batch, Sort, ANSWER};
 use crate::call::Call;
 use crate::compare::Step;
 use crate::odd::Odd;
+use crate::policy::read::DEEPEST;
 use crate::policy::{File, Wanted};
 use crate::queue::event::Event;
 use crate::queue::IDLE;
@@ -242,7 +243,7 @@ const REFUSALS: [(&str, &[Refusal]); 27] = [
 ];
 
 /// What may be wrong with a policy file.
-const FAULTS: [Refusal; 14] = [
+const FAULTS: [Refusal; 18] = [
     FileTooLong,
     StrayBytes,
     ValuePastEnd,
@@ -257,6 +258,10 @@ const FAULTS: [Refusal; 14] = [
     PathRuleTooShort,
     PortRuleSize,
     UnknownTag,
+    GroupTooDeep,
+    GroupWithoutLevel,
+    GroupLevel,
+    RulesetInGroup,
 ];
 
 /// The refusals that come after the verdict.
@@ -278,6 +283,9 @@ const REPORTS: [u64; 5] = [0, 1, 2, 3, 5];
 
 /// A call with a report: its name, the length of the report, why it was refused.
 type Report = (&'static str, u64, Option<Refusal>);
+
+/// How many groups of a ruleset stand inside one another, and whether some of its rules do not count.
+type Groups = (usize, bool);
 
 /// A call on policy files, one of them, and its fault.
 type Faulty = (&'static str, File, Refusal);
@@ -305,6 +313,8 @@ pub struct Tally {
     asked: BTreeMap<(Sort, AskedAnswer), u64>,
     /// Batches by what is said of their lists.
     lists: BTreeMap<Lists, u64>,
+    /// Applied rulesets by how deep their groups are and whether some of them do not count.
+    groups: BTreeMap<Groups, u64>,
     /// Policy files with a fault, by the call that met it.
     faults: BTreeMap<Faulty, u64>,
     /// Calls with a report by its length.
@@ -364,8 +374,19 @@ impl Tally {
     }
 
     /// Counts a name that was asked for in policy files.
-    pub fn count_policy(&mut self, call: &'static str, wanted: &Wanted, answer: Answer) {
+    pub fn count_policy(
+        &mut self,
+        call: &'static str,
+        wanted: &Wanted,
+        answer: Answer,
+        level: u64,
+    ) {
         self.calls += 1;
+        if let (Ok(_), Ok((_, ruleset))) = (answer, wanted.found()) {
+            let all = ruleset.rules(LAST_LEVEL).len();
+            let groups = (ruleset.depth(), ruleset.rules(level).len() < all);
+            *self.groups.entry(groups).or_default() += 1;
+        }
         let refusal = answer.err();
         *self.answers.entry((call, refusal)).or_default() += 1;
         let report = (call, wanted.report, refusal);
@@ -427,10 +448,16 @@ impl Tally {
         let asked = asked().filter(|asked| !self.asked.contains_key(asked));
         let lists = Lists::ALL.iter();
         let lists = lists.filter(|lists| !self.lists.contains_key(lists));
+        let groups = (0..=DEEPEST).flat_map(|depth| [false, true].map(|some| (depth, some)));
+        let groups =
+            groups.filter(|groups| *groups != (0, true) && !self.groups.contains_key(groups));
         let faults = faults().filter(|faulty| !self.faults.contains_key(faulty));
         let lines = refusals.map(|(call, refusal)| format!("{call} {}", refusal_text(refusal)));
         lines
             .chain(faults.map(|faulty| fault_text(&faulty)))
+            .chain(
+                groups.map(|groups| format!("ruleset with groups, depth and left out: {groups:?}")),
+            )
             .chain(served.map(|answer| format!("turn that serves, {}", answer_text(answer))))
             .chain(idle)
             .chain(asked.map(|asked| format!("request of a batch, {}", asked_text(asked))))

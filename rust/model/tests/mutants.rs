@@ -7,7 +7,7 @@ use model::denial::Denial;
 use model::judge::Move;
 use model::long_run::long_run;
 use model::names::component;
-use model::policy::read::{rulesets_of, Rule, Written};
+use model::policy::read::{rulesets_of, Item, Rule, Written};
 use model::policy::{Wanted, LONGEST_FILE};
 use model::queue::cells::{QueueCells, QueuePart};
 use model::queue::event::Event;
@@ -2578,6 +2578,10 @@ fn faults_that_are_not_tested_are_found() {
         PathRuleTooShort,
         PortRuleSize,
         UnknownTag,
+        GroupTooDeep,
+        GroupWithoutLevel,
+        GroupLevel,
+        RulesetInGroup,
     ] {
         let untested = |wanted: &Wanted| found_without(wanted, why).unwrap_or(wanted.find());
         let wanted = found_reading_of(untested, [0, why.errno().returned()]);
@@ -2608,8 +2612,9 @@ fn other_limits_of_files_are_found() {
     };
     found_reading(short_names);
     let no_path = |wanted: &Wanted| match wanted.found() {
-        Ok((file, Written { rules, .. }))
-            if rules
+        Ok((file, ruleset))
+            if ruleset
+                .rules(6)
                 .iter()
                 .any(|rule| matches!(rule, Rule::Path { path, .. } if path.is_empty())) =>
         {
@@ -2698,7 +2703,7 @@ fn a_ruleset_that_is_left_open_is_found() {
         let (answer, report) = model.apply_policy(wanted);
         if answer.is_err() {
             // Its create is refused where that was the reason.
-            let _ = model.create_ruleset(&ruleset.masks, 0);
+            let _ = model.create_ruleset(&ruleset.attribute(model.level), 0);
         }
         (answer, report)
     };
@@ -2710,16 +2715,11 @@ fn a_ruleset_that_is_left_open_is_found() {
 fn a_refused_rule_that_is_passed_over_is_found() {
     let passed_over = |model: &mut Model, wanted: &Wanted, ruleset: &Written| {
         let mut after = model.clone();
-        let Ok(number) = after.create_ruleset(&ruleset.masks, 0) else {
+        let Ok(number) = after.create_ruleset(&ruleset.attribute(model.level), 0) else {
             return model.apply_policy(wanted);
         };
-        for rule in &ruleset.rules {
-            let _ = match rule {
-                Rule::Path { rights, path } => after
-                    .lookup(path)
-                    .and_then(|entry| after.add_path_rule(number, entry, *rights, 0)),
-                Rule::Port { rights, port } => after.add_port_rule(number, *port, *rights, 0),
-            };
+        for rule in &ruleset.rules(model.level) {
+            let _ = after.add_written(number, rule);
         }
         *model = after;
         (Ok(number), wanted.find().1)
@@ -2747,20 +2747,24 @@ fn refused_first(
 fn calls_in_another_order_are_found() {
     // All paths are looked up before a rule is added.
     let lookups_first = |model: &mut Model, wanted: &Wanted, ruleset: &Written| {
-        let before = model.clone();
-        let refused = ruleset.rules.iter().filter_map(|rule| match rule {
+        let (before, rules) = (model.clone(), ruleset.rules(model.level));
+        let refused = rules.iter().filter_map(|rule| match rule {
             Rule::Path { path, .. } => before.lookup(path).err(),
             Rule::Port { .. } => None,
         });
-        let created = model.clone().create_ruleset(&ruleset.masks, 0);
+        let created = model
+            .clone()
+            .create_ruleset(&ruleset.attribute(model.level), 0);
         refused_first(model, wanted, created.err().into_iter().chain(refused))
     };
     found_applying(lookups_first);
     // Empty rights are refused before the path is looked up.
     let rights_first = |model: &mut Model, wanted: &Wanted, ruleset: &Written| {
-        let first = ruleset.rules.first();
-        let empty = matches!(first, Some(Rule::Path { rights: 0, .. }));
-        let created = model.clone().create_ruleset(&ruleset.masks, 0);
+        let rules = ruleset.rules(model.level);
+        let empty = matches!(rules.first(), Some(Rule::Path { rights: 0, .. }));
+        let created = model
+            .clone()
+            .create_ruleset(&ruleset.attribute(model.level), 0);
         let refused = empty.then_some(Refusal::NoRights);
         refused_first(model, wanted, created.err().into_iter().chain(refused))
     };
@@ -2768,20 +2772,14 @@ fn calls_in_another_order_are_found() {
     assert_eq!((cells, numbers[0]), (0, Errno::ENOMSG.returned()));
     // Ports before paths.
     let ports_first = |model: &mut Model, wanted: &Wanted, ruleset: &Written| {
-        let mut sorted = ruleset.rules.clone();
+        let mut sorted = ruleset.rules(model.level);
         sorted.sort_by_key(|rule| matches!(rule, Rule::Path { .. }));
         let mut after = model.clone();
-        let Ok(number) = after.create_ruleset(&ruleset.masks, 0) else {
+        let Ok(number) = after.create_ruleset(&ruleset.attribute(model.level), 0) else {
             return model.apply_policy(wanted);
         };
         for rule in &sorted {
-            let added = match rule {
-                Rule::Path { rights, path } => after
-                    .lookup(path)
-                    .and_then(|entry| after.add_path_rule(number, entry, *rights, 0)),
-                Rule::Port { rights, port } => after.add_port_rule(number, *port, *rights, 0),
-            };
-            if let Err(refusal) = added {
+            if let Err(refusal) = after.add_written(number, rule) {
                 return (Err(refusal), [0; 3]);
             }
         }
@@ -2799,6 +2797,171 @@ fn reports_of_refused_applications_are_found() {
     };
     let (cells, [broker, model]) = found_applying(reported);
     assert!(cells == 0 && broker == model);
+}
+
+/// The place of the field of a file, outside all groups, that a place is in.
+fn outer_place(file: &[u8], place: u64) -> u64 {
+    let places = model::policy::files::places(file);
+    let before = places.into_iter().map(|at| at as u64);
+    before.filter(|at| *at <= place).max().unwrap_or(0)
+}
+
+#[test]
+fn faults_in_groups_that_are_placed_otherwise_are_found() {
+    let outer = |wanted: &Wanted| match wanted.find() {
+        (answer @ Err(_), [file, place, 0]) if returned(answer) == EBADMSG => {
+            let outer = outer_place(&wanted.files[file as usize], place);
+            (answer, [file, outer, 0])
+        }
+        found => found,
+    };
+    found_reading_of(outer, [EBADMSG; 2]);
+    // The next field behind a group, for one that goes past its group's end.
+    let past = |wanted: &Wanted| match wanted.find() {
+        (Err(Refusal::ValuePastEnd), [file, place, _]) => {
+            let bytes = &wanted.files[file as usize];
+            let outer = outer_place(bytes, place);
+            let next = model::policy::files::places(bytes).into_iter();
+            let next = next.map(|at| at as u64).find(|at| *at > place);
+            let place = if outer == place {
+                place
+            } else {
+                next.unwrap_or(place)
+            };
+            (Err(Refusal::ValuePastEnd), [file, place, 0])
+        }
+        found => found,
+    };
+    found_reading_of(past, [EBADMSG; 2]);
+}
+
+#[test]
+fn groups_that_do_not_count_and_are_not_checked_are_found() {
+    // By a reader that knows only level 3: what stands in a group of a higher one is passed over.
+    let unchecked = |wanted: &Wanted| match wanted.find() {
+        (Err(refusal), [file, place, _]) if returned(Err(refusal)) == EBADMSG => {
+            let bytes = &wanted.files[file as usize];
+            let outer = outer_place(bytes, place) as usize;
+            match (bytes.get(outer), bytes.get(outer + 3)) {
+                (Some(5), Some(4..=6)) if outer as u64 != place => (Ok(0), [0; 3]),
+                _ => wanted.find(),
+            }
+        }
+        found => found,
+    };
+    found_reading_of(unchecked, [0, EBADMSG]);
+}
+
+/// A wrong application of rulesets with other masks or other rules.
+fn found_applied(
+    masks: impl Fn(&Written, u64) -> Vec<u8>,
+    rules: impl Fn(&Written, u64) -> Vec<Rule>,
+) -> (usize, [u64; 2]) {
+    found_applying(|model: &mut Model, wanted: &Wanted, ruleset: &Written| {
+        let mut after = model.clone();
+        let created = after.create_ruleset(&masks(ruleset, model.level), 0);
+        let added = created.and_then(|number| {
+            let mut rules = rules(ruleset, model.level).into_iter();
+            rules.try_for_each(|rule| after.add_written(number, &rule))?;
+            Ok(number)
+        });
+        match added {
+            Ok(number) => {
+                *model = after;
+                (Ok(number), wanted.find().1)
+            }
+            Err(refusal) => (Err(refusal), [0; 3]),
+        }
+    })
+}
+
+#[test]
+fn masks_that_are_cut_otherwise_are_found() {
+    let rules = |ruleset: &Written, level| ruleset.rules(level);
+    let with_group = |ruleset: &Written| Written {
+        items: vec![Item::Group {
+            level: 1,
+            items: Vec::new(),
+        }],
+        ..ruleset.clone()
+    };
+    // Also without groups.
+    let (_, [broker, model]) =
+        found_applied(|ruleset, level| with_group(ruleset).attribute(level), rules);
+    assert!(broker < 16 && model > 16);
+    // Never.
+    let (_, [broker, model]) = found_applied(|ruleset, _| ruleset.masks.clone(), rules);
+    assert!(broker > 16 && model < 16);
+    // Only where a group counts.
+    let counted = |ruleset: &Written, level: u64| {
+        let mut items = ruleset.items.iter();
+        let counts =
+            items.any(|item| matches!(item, Item::Group { level: lowest, .. } if *lowest <= level));
+        match counts {
+            true => ruleset.attribute(level),
+            false => ruleset.masks.clone(),
+        }
+    };
+    found_applied(counted, rules);
+    // Bits that no level knows are cut, too.
+    let known = |ruleset: &Written, level: u64| {
+        let cut = ruleset.attribute(level);
+        let known = Masks::known(level);
+        let known = [known.fs.0, known.net.0, known.scope.0]
+            .map(u64::to_le_bytes)
+            .concat();
+        match ruleset.has_groups() {
+            true => cut
+                .iter()
+                .zip(known)
+                .map(|(byte, known)| byte & known)
+                .collect(),
+            false => cut,
+        }
+    };
+    let (_, [broker, model]) = found_applied(known, rules);
+    assert!(broker < 16 && model > 16);
+}
+
+#[test]
+fn rules_that_count_otherwise_are_found() {
+    let masks = |ruleset: &Written, level| ruleset.attribute(level);
+    // All of them.
+    found_applied(masks, |ruleset, _| ruleset.rules(6));
+    // Those of groups whose own level is reached, whatever stands around them.
+    fn own(items: &[Item], level: u64, counts: bool) -> Vec<Rule> {
+        let rules = items.iter().flat_map(|item| match item {
+            Item::Rule(rule) => Vec::from_iter(counts.then(|| rule.clone())),
+            Item::Group {
+                level: lowest,
+                items,
+            } => own(items, level, *lowest <= level),
+        });
+        rules.collect()
+    }
+    found_applied(masks, |ruleset, level| own(&ruleset.items, level, true));
+    // Those of groups last.
+    let groups_last = |ruleset: &Written, level: u64| {
+        let mut ruleset = ruleset.clone();
+        ruleset
+            .items
+            .sort_by_key(|item| matches!(item, Item::Group { .. }));
+        ruleset.rules(level)
+    };
+    found_applied(masks, groups_last);
+    // A level that is one below is enough.
+    found_applied(masks, |ruleset, level| ruleset.rules(level + 1));
+    // Rights that the level does not know are left out.
+    let cut = |ruleset: &Written, level: u64| {
+        let mut rules = ruleset.rules(level);
+        for rule in &mut rules {
+            if let (Rule::Path { rights, .. }, true) = (rule, ruleset.has_groups()) {
+                *rights &= Masks::known(level).fs.0 | !0xffff;
+            }
+        }
+        rules
+    };
+    found_applied(masks, cut);
 }
 
 /// Reads the files before it tests the tables.

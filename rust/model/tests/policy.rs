@@ -1,8 +1,10 @@
-//! Request W4: policy files. The answers are written down from the papers; the model and the proved core must both
+//! Requests W4 and W7: policy files. The answers are written down from the papers; the model and the proved core must both
 //! give them.
 
 use model::call::Broker;
-use model::policy::files::{field, fill_to, opening, path_rule, port_rule, worked_tree};
+use model::policy::files::{
+    field, fill_to, group, nested, opening, path_rule, port_rule, worked_tree,
+};
 use model::policy::{File, Wanted};
 use model::proved::Both;
 use model::refusal::Errno::{self, *};
@@ -129,7 +131,7 @@ fn stray_bytes() {
 #[test]
 fn faulty_fields() {
     let first = p().len();
-    for tag in (0..=255).filter(|tag| ![1, 3, 4].contains(tag)) {
+    for tag in (0..=255).filter(|tag| ![1, 3, 4, 5].contains(tag)) {
         for length in [0, 1, 8, 10, 24] {
             let other = field(tag, &vec![1; length]);
             damaged(&[&p(), &other[..], &[9]].concat(), first);
@@ -355,4 +357,176 @@ fn the_tree_at_the_application() {
     applied(&mut tables, &file, Ok(0));
     // The new entry's object is 5.
     assert_eq!(tables.cell(Table::Rulesets, 4 + 1), 5);
+}
+
+#[test]
+fn groups_that_are_fine() {
+    for level in 1..=6 {
+        fine(&[p(), group(level, &[])].concat());
+        fine(&[p(), group(level, &path_rule(4, b"/"))].concat());
+        fine(&[p(), group(level, &group(7 - level, &[])), port_rule(1, 1)].concat());
+    }
+    for depth in 1..=8 {
+        fine(&[p(), nested(depth, &port_rule(1, 1))].concat());
+    }
+    // Eight deep twice, one behind the other.
+    fine(&[p(), nested(8, &[]), nested(8, &[])].concat());
+}
+
+#[test]
+fn groups_that_are_faulty() {
+    let first = p().len();
+    for value in [
+        &[][..],
+        &[0],
+        &[7],
+        &[255],
+        &[0, 3, 8, 0, 0, 0, 0, 0, 0, 0, 0, 0],
+    ] {
+        damaged(&[p(), field(5, value)].concat(), first);
+        damaged(&[p(), group(1, &field(5, value))].concat(), first + 4);
+    }
+    // Only where a rule may stand.
+    damaged(&group(1, &[]), 0);
+    damaged(&[field(1, b"p"), group(1, &[])].concat(), 4);
+    // A ninth is faulty at its own place, whatever is in it.
+    for inner in [&[][..], &[9], &path_rule(4, b"/")] {
+        damaged(&[p(), nested(9, inner)].concat(), first + 4 * 8);
+        damaged(&[p(), nested(10, inner)].concat(), first + 4 * 8);
+    }
+    damaged(&[p(), nested(8, &field(5, &[]))].concat(), first + 4 * 8);
+}
+
+/// An inner field is faulty at its own place, counted or not.
+#[test]
+fn faulty_fields_in_groups() {
+    let first = p().len();
+    let rule = path_rule(4, b"/cal");
+    for (level, bad) in (1..=6).flat_map(|level| {
+        let fields = [
+            vec![0],
+            vec![3, 8],
+            field(0, &[]),
+            field(1, b"q"),
+            opening(b"q", [1, 0, 0]),
+            field(2, &[0; 24]),
+            field(3, &[0; 7]),
+            field(4, &[0; 9]),
+            field(6, &[1]),
+            // It would fit the file, and does not fit its group.
+            vec![3, 9, 0, 4, 0, 0, 0, 0, 0, 0, 0],
+        ];
+        fields.map(|bad| (level, bad))
+    }) {
+        let behind = path_rule(4, b"/import");
+        damaged(
+            &[p(), group(level, &bad), behind.clone()].concat(),
+            first + 4,
+        );
+        let second = [&rule[..], &bad].concat();
+        damaged(
+            &[p(), group(level, &second), behind.clone()].concat(),
+            first + 4 + 15,
+        );
+        let inner = [rule.clone(), group(1, &second)].concat();
+        damaged(
+            &[p(), group(level, &inner), behind].concat(),
+            first + 4 + 15 + 4 + 15,
+        );
+    }
+}
+
+/// Rules that count at each level, and the masks of each create.
+#[test]
+fn groups_at_each_level() {
+    let all = [0xffff, 3, 3];
+    let bind = |level: u8| group(level, &path_rule(1 << 1, b"/cal"));
+    for level in 1..=6u8 {
+        for lowest in 1..=6u8 {
+            let file = [opening(b"p", all), path_rule(READ, b"/cal"), bind(lowest)].concat();
+            let mut tables = encode(&worked_tree(level.into()));
+            applied(&mut tables, &file, Ok(0));
+            let rights = if lowest <= level { READ | WRITE } else { READ };
+            assert_eq!(
+                tables.cell(Table::Rulesets, 4 + 2),
+                rights,
+                "{level} {lowest}"
+            );
+            let fs = [0, 0x1fff, 0x3fff, 0x7fff, 0x7fff, 0xffff, 0xffff][usize::from(level)];
+            let others = [level >= 4, level >= 6].map(|known| if known { 3 } else { 0 });
+            let masks = [0, 1, 2].map(|cell| tables.cell(Table::Rulesets, cell));
+            assert_eq!(masks, [fs, others[0], others[1]], "{level}");
+        }
+    }
+    // The groups around it count as well.
+    let inner = group(2, &path_rule(WRITE, b"/cal"));
+    for (level, rules) in [(2, 0), (4, 0), (5, 1), (6, 1)] {
+        let file = [opening(b"p", all), group(5, &inner)].concat();
+        let mut tables = encode(&worked_tree(level));
+        applied(&mut tables, &file, Ok(0));
+        assert_eq!(tables.cell(Table::Rulesets, 3), rules, "{level}");
+    }
+}
+
+#[test]
+fn masks_and_groups() {
+    let none = group(6, &[]);
+    for (level, masks, groups, answer) in [
+        // Without groups the masks are as they are.
+        (1, [1 << 13 | 4, 0, 0], false, Err(EINVAL)),
+        (3, [4, 3, 0], false, Err(E2BIG)),
+        // An empty group, or one that does not count, is a group.
+        (1, [1 << 13 | 4, 0, 0], true, Ok(0)),
+        (3, [4, 3, 3], true, Ok(0)),
+        (5, [4, 0, 3], true, Ok(0)),
+        (6, [4, 0, 3], true, Ok(0)),
+        // Bits that no level knows stay.
+        (3, [4, 1 << 5, 0], true, Err(E2BIG)),
+        (3, [4, 3 | 1 << 2, 0], true, Err(E2BIG)),
+        (4, [4, 1 << 5, 0], true, Err(EINVAL)),
+        (6, [4, 1 << 5, 0], true, Err(EINVAL)),
+        (6, [1 << 16, 0, 0], true, Err(EINVAL)),
+        (5, [4, 0, 1 << 2], true, Err(E2BIG)),
+        (1, [1 << 63 | 4, 0, 0], true, Err(EINVAL)),
+        // Nothing is left.
+        (1, [1 << 13, 0, 0], true, Err(ENOMSG)),
+        (3, [0, 3, 3], true, Err(ENOMSG)),
+        (4, [0, 0, 3], true, Err(ENOMSG)),
+        (0, [4, 0, 0], true, Err(EOPNOTSUPP)),
+    ] {
+        let mut file = opening(b"p", masks);
+        if groups {
+            file.extend(&none);
+        }
+        applied(&mut encode(&worked_tree(level)), &file, answer);
+    }
+    // Another ruleset's groups are none of this one.
+    let file = [
+        opening(b"p", [1 << 13, 0, 0]),
+        opening(b"q", [4, 0, 0]),
+        none,
+    ]
+    .concat();
+    applied(&mut encode(&worked_tree(1)), &file, Err(EINVAL));
+}
+
+/// Rights of rules are never cut: one for a higher level stands in a group.
+#[test]
+fn rights_in_and_outside_of_groups() {
+    let ioctl = 1 << 15;
+    let rule = path_rule(READ | ioctl, b"/cal");
+    let masks = opening(b"p", [READ | ioctl, 3, 0]);
+    let outside = [masks.clone(), rule.clone(), group(6, &[])].concat();
+    let inside = [masks.clone(), group(5, &rule)].concat();
+    let port = [masks, group(4, &port_rule(1, 80))].concat();
+    for level in 1..=6 {
+        let known = if level >= 5 { Ok(0) } else { Err(EINVAL) };
+        applied(&mut encode(&worked_tree(level)), &outside, known);
+        applied(&mut encode(&worked_tree(level)), &inside, Ok(0));
+        applied(&mut encode(&worked_tree(level)), &port, Ok(0));
+    }
+    // A refused rule in a group that does not count is not reached.
+    let file = [p(), group(5, &path_rule(0, b"/none"))].concat();
+    applied(&mut encode(&worked_tree(4)), &file, Ok(0));
+    applied(&mut encode(&worked_tree(5)), &file, Err(ENOENT));
 }

@@ -52,6 +52,15 @@ fn port_rule(rights: u64, port: u16) -> Vec<u8> {
     field(4, &value.concat())
 }
 
+fn group(level: u8, fields: &[u8]) -> Vec<u8> {
+    field(5, &[&[level], fields].concat())
+}
+
+/// Fields in so many groups, each inside the next.
+fn nested(depth: usize, fields: &[u8]) -> Vec<u8> {
+    (0..depth).fold(fields.to_vec(), |inner, _| group(1, &inner))
+}
+
 /// Numbers that look random and are the same each time.
 struct Noise(u64);
 
@@ -93,14 +102,22 @@ impl Noise {
             let mut name = self.bytes(30);
             name.push(u8::try_from(number).expect("few rulesets"));
             file.extend(ruleset(&name, [0; 3].map(|_| self.mask())));
-            for _ in 0..self.below(6) {
-                file.extend(match self.below(3) {
-                    0 => port_rule(self.mask(), self.number() as u16),
-                    _ => path_rule(self.mask(), &self.bytes(40)),
-                });
-            }
+            file.extend(self.rules(8));
         }
         file
+    }
+
+    /// Rules and groups, where so many more may stand inside one another.
+    fn rules(&mut self, depth: usize) -> Vec<u8> {
+        let rules = (0..self.below(6)).flat_map(|_| match self.below(4) {
+            0 => port_rule(self.mask(), self.number() as u16),
+            1 if depth > 0 => {
+                let level = 1 + self.below(6) as u8;
+                group(level, &self.rules(depth - 1))
+            }
+            _ => path_rule(self.mask(), &self.bytes(40)),
+        });
+        rules.collect()
     }
 }
 
@@ -110,8 +127,9 @@ fn show_and_build_give_the_same_bytes() {
     let mut noise = Noise(0x9e37_79b9_7f4a_7c15);
     let mut longest = ruleset(b"p", [4, 0, 0]);
     longest.extend(path_rule(4, &vec![0xff; 32_768 - 31 - 11]));
+    let deepest = [ruleset(b"p", [4, 0, 0]), nested(8, &path_rule(4, b"/"))].concat();
     let random = (0..60).map(|_| noise.file());
-    for file in random.chain([Vec::new(), longest]) {
+    for file in random.chain([Vec::new(), longest, deepest]) {
         let written = folder.write("file", &file);
         let shown = folder.skein(&["policy", "show", &written]);
         assert_eq!((shown.code, shown.err.as_str()), (0, ""), "{file:?}");
@@ -203,6 +221,14 @@ fn what_is_wrong_is_said_in_words() {
             31,
             "found tag 9, which means nothing; expected",
         ),
+        (group(1, &[]), 0, "found a group (tag 5); expected a ruleset's name (tag 1) at the start"),
+        ([&p[..], &field(5, &[])].concat(), 31, "found a group without a level; expected a level from 1 to 6"),
+        ([&p[..], &group(7, &[])].concat(), 31, "found a group from level 7 on; expected a level from 1 to 6"),
+        ([&p[..], &group(6, &p)].concat(), 35, "found a ruleset's name (tag 1); expected it outside of groups"),
+        ([&p[..], &group(6, &[9, 9])].concat(), 35, "found 2 stray bytes at the end"),
+        ([&p[..], &group(6, &[3, 9, 0, 1]), &path_rule(4, b"/")].concat(), 35, "of which 1 is there; expected a value that ends with its group"),
+        ([&p[..], &group(2, &group(6, &field(9, &[])))].concat(), 39, "found tag 9, which means nothing; expected a path rule (tag 3), a port rule (4) or a group (5)"),
+        ([&p[..], &nested(9, &[])].concat(), 63, "found a group inside 8 others; expected at most 8"),
     ] {
         folder.write("file", &file);
         let Ran { code, out, err } = folder.skein(&["policy", "check", "file"]);
@@ -254,6 +280,32 @@ fn bad_lines_are_named() {
             "a port up to 65535",
         ),
         ("ruleset p\nmasks fs=4\nport x 1", 3, "a port: a number"),
+        (
+            "ruleset p\nmasks fs=4\nend",
+            3,
+            "found `end`; expected it behind a `group`",
+        ),
+        (
+            "ruleset p\nmasks fs=4\ngroup 4\npath / 4",
+            3,
+            "found a group without `end`",
+        ),
+        ("ruleset p\nmasks fs=4\ngroup\nend", 3, "`group LEVEL`"),
+        (
+            "ruleset p\nmasks fs=4\ngroup 256\nend",
+            3,
+            "a level from 1 to 6",
+        ),
+        (
+            "ruleset p\nmasks fs=4\ngroup 7\nend",
+            3,
+            "found a group from level 7 on",
+        ),
+        (
+            "ruleset p\nmasks fs=4\ngroup 4\n\nruleset q\nmasks\nend",
+            5,
+            "it outside of groups",
+        ),
         // What the broker finds is said with its line, too.
         (
             "ruleset p\n# comment\nmasks fs=4\n\nruleset p\nmasks fs=4",
@@ -416,7 +468,7 @@ fn every_example_of_the_document_is_run() {
             other => panic!("`{other}` is no kind of example"),
         }
     }
-    assert_eq!(compared, 4);
+    assert_eq!(compared, 5);
 }
 
 /// Runs a command on a file, which is its third word, and compares what it writes.

@@ -153,7 +153,9 @@ pub fn find_policy<'a>(
 impl Tables {
     /// Opens a ruleset as policy files have it under a name, and answers its number: [`find_policy`], then
     /// [`Tables::create_ruleset`] with its masks and, in the order of the file, [`Tables::lookup`] and [`Tables::add_path_rule`]
-    /// for a path rule, [`Tables::add_port_rule`] for a port rule. The first call that is refused ends it, and the ruleset is closed
+    /// for a path rule, [`Tables::add_port_rule`] for a port rule. Rules in a group are added only where the level reaches the
+    /// group's number and those of the groups around it; where the ruleset has a group, counted or not, mask bits that only higher
+    /// levels know are left out. The first call that is refused ends it, and the ruleset is closed
     /// again: nothing has changed then.
     ///
     /// Refusals, in order: tables not sound, EIO; those of [`find_policy`]; those of the calls.

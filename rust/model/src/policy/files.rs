@@ -1,6 +1,6 @@
 //! Random policy files, fine and damaged, and a list of files with every byte changed.
 
-use super::read::{LONGEST_NAME, MASKS};
+use super::read::{DEEPEST, LONGEST_NAME, MASKS};
 use super::{Wanted, LONGEST_FILE};
 use crate::attributes::level_masks;
 use crate::paths::path;
@@ -21,6 +21,16 @@ pub fn path_rule(rights: u64, path: &[u8]) -> Vec<u8> {
 pub fn port_rule(rights: u64, port: u16) -> Vec<u8> {
     let value = [&rights.to_le_bytes()[..], &port.to_le_bytes()].concat();
     field(4, &value)
+}
+
+/// A group of fields from a level on.
+pub fn group(level: u8, fields: &[u8]) -> Vec<u8> {
+    field(5, &[&[level], fields].concat())
+}
+
+/// A rule in so many groups, each inside the next.
+pub fn nested(depth: usize, rule: &[u8]) -> Vec<u8> {
+    (0..depth).fold(rule.to_vec(), |inner, _| group(1, &inner))
 }
 
 /// The name and the masks of a ruleset.
@@ -73,7 +83,7 @@ pub fn wanted(model: &Model, random: &mut Random) -> Wanted {
         let file = random.below(2) as usize;
         damage(&mut files[file], random);
     }
-    if random.chance(6) {
+    if random.chance(8) {
         let file = random.below(2) as usize;
         fill_up(&mut files[file], random);
     }
@@ -86,7 +96,7 @@ pub fn wanted(model: &Model, random: &mut Random) -> Wanted {
     Wanted {
         files,
         name,
-        report: random.pick(&[3, 3, 3, 0, 1, 2, 5]),
+        report: random.pick(&[3, 3, 0, 1, 2, 5]),
     }
 }
 
@@ -114,12 +124,48 @@ fn ruleset(name: &[u8], model: &Model, random: &mut Random) -> Vec<u8> {
     if random.chance(6) {
         return many_rules(name, random);
     }
-    let masks = masks(model, random);
+    let groups = random.chance(40);
+    let masks = match groups && random.chance(70) {
+        // One file serves several levels: bits that higher ones know.
+        true => [random.bits_of(0xffff) | 4, random.below(4), random.below(4)],
+        false => masks(model, random),
+    };
     let mut bytes = opening(name, masks);
     for _ in 0..random.pick(&[0, 1, 2, 3, 4, 6]) {
-        bytes.extend(rule(masks, model, random));
+        let rule = rule(masks, model, random);
+        match groups && random.chance(60) {
+            true => bytes.extend(grouped(rule, masks, model, random)),
+            false => bytes.extend(rule),
+        }
     }
     bytes
+}
+
+/// A rule in groups, perhaps more than may be, with other rules beside it.
+fn grouped(rule: Vec<u8>, masks: [u64; 3], model: &Model, random: &mut Random) -> Vec<u8> {
+    let deepest = DEEPEST as u64;
+    let depth = match random.below(10) {
+        0 => deepest,
+        1 => random.between(3, deepest + 2),
+        _ => random.between(1, 2),
+    };
+    let mut fields = match random.chance(15) {
+        true => Vec::new(),
+        false => rule,
+    };
+    for _ in 0..depth {
+        let level = match random.below(40) {
+            0 => random.pick(&[0, 7, 255]),
+            1..=12 => model.level.max(1) as u8,
+            13..=24 => random.between(1, 6) as u8,
+            _ => 1,
+        };
+        fields = group(level, &fields);
+        if random.chance(10) {
+            fields.extend(self::rule(masks, model, random));
+        }
+    }
+    fields
 }
 
 /// A ruleset with about as many rules as one may have.
@@ -158,7 +204,8 @@ fn rule(masks: [u64; 3], model: &Model, random: &mut Random) -> Vec<u8> {
     let entry = model.lookup(&path).ok();
     let kind = entry.and_then(|entry| model.entries.get(&entry));
     let rights = kind.map_or(u64::MAX, |entry| entry.kind.rights().0);
-    path_rule(some_of(fs & rights, random), &path)
+    let rights = if random.chance(15) { fs } else { fs & rights };
+    path_rule(some_of(rights, random), &path)
 }
 
 /// Rights of a mask, mostly; none, or others.
@@ -180,7 +227,33 @@ fn damage(file: &mut Vec<u8>, random: &mut Random) {
     let place = random.pick(&fields);
     let end = fields.iter().copied().find(|end| *end > place);
     let end = end.unwrap_or(file.len());
-    match random.below(14) {
+    match random.below(18) {
+        14 => {
+            let inner = match random.below(6) {
+                0 => Vec::new(),
+                1 => opening(b"p", [4, 0, 0]),
+                2 => field(2, &[0; MASKS]),
+                3 => vec![3, 8],
+                4 => vec![3, 9, 0, 4, 0, 0, 0, 0, 0, 0, 0],
+                _ => field(random.pick(&[0, 6, 16]), &[]),
+            };
+            let levels = [0, 1, 1, 1, 6, 6, 7];
+            let group = match random.chance(10) {
+                true => field(5, &[]),
+                false => group(random.pick(&levels), &inner),
+            };
+            file.splice(place..place, group);
+        }
+        15 => {
+            let depth = DEEPEST + random.below(3) as usize;
+            file.splice(place..place, nested(depth, &path_rule(4, b"/")));
+        }
+        16 => {
+            // Somewhere in a group, perhaps.
+            let at = random.below(file.len() as u64 + 1) as usize;
+            let byte = random.pick(&[0, 1, 2, 3, 4, 5, 6, 7]);
+            write(file, at, byte);
+        }
         0 => write(file, place, random.below(8) as u8),
         1 => write(file, place, random.number() as u8),
         2 | 3 => {
@@ -283,7 +356,30 @@ fn bases() -> Vec<Vec<u8>> {
     ]
     .concat();
     let nearly = [opening(b"p", [1, 0, 0]), field(1, b"q")].concat();
+    let inner = [path_rule(4, b"/cal"), group(6, &[]), port_rule(1, 80)].concat();
+    let groups = [
+        opening(b"p", [0xffff, 3, 3]),
+        group(4, &inner),
+        group(2, &group(5, &path_rule(1 << 15, b"/import"))),
+        path_rule(4, b"/"),
+        opening(b"q", [1 << 13, 0, 0]),
+        group(1, &[]),
+    ]
+    .concat();
+    let deepest = [
+        opening(b"p", [4, 0, 0]),
+        nested(DEEPEST, &path_rule(4, b"/")),
+    ]
+    .concat();
+    let too_deep = [
+        opening(b"p", [4, 0, 0]),
+        nested(DEEPEST + 1, &path_rule(4, b"/")),
+    ]
+    .concat();
     vec![
+        groups,
+        deepest,
+        too_deep,
         Vec::new(),
         opening(b"p", [4, 0, 0]),
         worked,

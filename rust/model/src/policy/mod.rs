@@ -1,4 +1,4 @@
-//! Request W4: policy files. What a name means in two of them, and what applying it does.
+//! Requests W4 and W7: policy files. What a name means in two of them, and what applying it does.
 //!
 //! [`read`] reads a file whole; [`files`] makes random and damaged ones.
 
@@ -123,18 +123,24 @@ impl Model {
 
     /// "Applying a ruleset makes the same calls in file order, stops at the first refusal with that number".
     fn open_written(&mut self, ruleset: &Written) -> Answer {
-        let number = self.create_ruleset(&ruleset.masks, 0)?;
-        for rule in &ruleset.rules {
-            match rule {
-                Rule::Path { rights, path } => {
-                    let entry = self.lookup(path)?;
-                    self.add_path_rule(number, entry, *rights, 0)?;
-                }
-                Rule::Port { rights, port } => {
-                    self.add_port_rule(number, *port, *rights, 0)?;
-                }
-            }
+        let number = self.create_ruleset(&ruleset.attribute(self.level), 0)?;
+        for rule in &ruleset.rules(self.level) {
+            self.add_written(number, rule)?;
         }
         Ok(number)
+    }
+
+    /// "A path is any bytes, looked up just before its rule is added".
+    pub fn add_written(&mut self, ruleset: u64, rule: &Rule) -> Result<(), Refusal> {
+        match rule {
+            Rule::Path { rights, path } => {
+                let entry = self.lookup(path)?;
+                self.add_path_rule(ruleset, entry, *rights, 0)?;
+            }
+            Rule::Port { rights, port } => {
+                self.add_port_rule(ruleset, *port, *rights, 0)?;
+            }
+        }
+        Ok(())
     }
 }

@@ -1,11 +1,15 @@
 //! A policy file, read from its start by what may stand next.
 
 use crate::refusal::Refusal;
+use crate::rights::{Masks, Rights};
+use crate::state::LAST_LEVEL;
 use std::collections::BTreeSet;
 use std::ops::Range;
 
 /// The most bytes of a ruleset's name.
 pub const LONGEST_NAME: usize = 32;
+/// How many groups may stand inside one another.
+pub const DEEPEST: usize = 8;
 /// The bytes of three masks, of a right set and of a port.
 pub const MASKS: usize = 24;
 const RIGHTS: usize = 8;
@@ -18,13 +22,81 @@ pub struct Written {
     /// From its tag 1 up to the next ruleset or the file's end.
     pub part: Range<usize>,
     pub masks: Vec<u8>,
-    pub rules: Vec<Rule>,
+    pub items: Vec<Item>,
+}
+
+/// A rule, or a group of rules and groups from a level on.
+#[derive(Clone, PartialEq, Eq, Debug)]
+pub enum Item {
+    Rule(Rule),
+    Group { level: u64, items: Vec<Item> },
+}
+
+impl Item {
+    /// The rules that count at a level.
+    fn counted(&self, level: u64) -> Vec<Rule> {
+        match self {
+            Item::Rule(rule) => vec![rule.clone()],
+            Item::Group { level: lowest, .. } if level < *lowest => Vec::new(),
+            Item::Group { items, .. } => {
+                let rules = items.iter().flat_map(|item| item.counted(level));
+                rules.collect()
+            }
+        }
+    }
+}
+
+impl Written {
+    /// The rules that are added at a level, in order: "a group counts exactly if the .. level reaches its number
+    /// and those of the groups around it".
+    pub fn rules(&self, level: u64) -> Vec<Rule> {
+        let rules = self.items.iter().flat_map(|item| item.counted(level));
+        rules.collect()
+    }
+
+    /// How many groups stand inside one another.
+    pub fn depth(&self) -> usize {
+        depth(&self.items)
+    }
+
+    /// Whether it has a group, counted or not.
+    pub fn has_groups(&self) -> bool {
+        let mut items = self.items.iter();
+        items.any(|item| matches!(item, Item::Group { .. }))
+    }
+
+    /// What its create is given at a level: "in a ruleset with groups the create gets no mask bits that only
+    /// higher levels know".
+    pub fn attribute(&self, level: u64) -> Vec<u8> {
+        if !self.has_groups() {
+            return self.masks.clone();
+        }
+        let only_higher = |lowest: u64| {
+            let (all, known) = (Masks::known(LAST_LEVEL), Masks::known(lowest));
+            [
+                all.fs.without(known.fs),
+                all.net.without(known.net),
+                all.scope.without(known.scope),
+            ]
+        };
+        let masks = self.masks.chunks(8).zip(only_higher(level));
+        let cut = masks.map(|(mask, higher)| Rights(number(mask)).without(higher).0);
+        cut.flat_map(u64::to_le_bytes).collect()
+    }
 }
 
 #[derive(Clone, PartialEq, Eq, Debug)]
 pub enum Rule {
     Path { rights: u64, path: Vec<u8> },
     Port { rights: u64, port: u64 },
+}
+
+fn depth(items: &[Item]) -> usize {
+    let groups = items.iter().map(|item| match item {
+        Item::Rule(_) => 0,
+        Item::Group { items, .. } => 1 + depth(items),
+    });
+    groups.max().unwrap_or(0)
 }
 
 /// The place of the first faulty field, and what is wrong with it.
@@ -98,12 +170,12 @@ pub fn rulesets_of(file: &[u8]) -> Result<Vec<Written>, Fault> {
         let name = opening(&mut rest, &mut names)?;
         let start = name.place;
         let masks = masks(&mut rest)?;
-        let rules = rules(&mut rest)?;
+        let items = items(&mut rest)?;
         rulesets.push(Written {
             name: name.value.to_vec(),
             part: start..rest.place,
             masks,
-            rules,
+            items,
         });
     }
     Ok(rulesets)
@@ -144,18 +216,50 @@ fn masks(rest: &mut Rest) -> Result<Vec<u8>, Fault> {
     Ok(field.value.to_vec())
 }
 
-/// The rules up to the next ruleset or the file's end.
-fn rules(rest: &mut Rest) -> Result<Vec<Rule>, Fault> {
-    let mut rules = Vec::new();
+/// The rules and groups up to the next ruleset or the file's end.
+fn items(rest: &mut Rest) -> Result<Vec<Item>, Fault> {
+    let mut items = Vec::new();
     while !rest.is_over() {
         let field = rest.next()?;
         if field.tag == 1 {
             break;
         }
-        rules.push(rule(&field)?);
+        items.push(item(&field, 0)?);
         rest.drop(&field);
     }
-    Ok(rules)
+    Ok(items)
+}
+
+/// A field where a rule may stand, with so many groups around it.
+fn item(field: &Field, around: usize) -> Result<Item, Fault> {
+    if field.tag != 5 {
+        return rule(field).map(Item::Rule);
+    }
+    // "Groups nest at most 8 deep .. a ninth is EBADMSG at its place".
+    if around == DEEPEST {
+        return Err(field.fault(Refusal::GroupTooDeep));
+    }
+    // "a one-byte lowest level (1 to 6), then fields, perhaps none".
+    let Some((level, inner)) = field.value.split_first() else {
+        return Err(field.fault(Refusal::GroupWithoutLevel));
+    };
+    if !(1..=LAST_LEVEL).contains(&u64::from(*level)) {
+        return Err(field.fault(Refusal::GroupLevel));
+    }
+    let mut rest = Rest {
+        place: field.place + 4,
+        bytes: inner,
+    };
+    let mut items = Vec::new();
+    while !rest.is_over() {
+        let field = rest.next()?;
+        items.push(item(&field, around + 1)?);
+        rest.drop(&field);
+    }
+    Ok(Item::Group {
+        level: u64::from(*level),
+        items,
+    })
 }
 
 /// "tag 3 a path rule (8-byte rights, then the path), tag 4 a port rule (8-byte rights, 2-byte port, both
@@ -163,6 +267,7 @@ fn rules(rest: &mut Rest) -> Result<Vec<Rule>, Fault> {
 fn rule(field: &Field) -> Result<Rule, Fault> {
     let value = field.value;
     match field.tag {
+        1 => Err(field.fault(Refusal::RulesetInGroup)),
         2 => Err(field.fault(Refusal::MasksAgain)),
         3 if value.len() < RIGHTS => Err(field.fault(Refusal::PathRuleTooShort)),
         3 => Ok(Rule::Path {

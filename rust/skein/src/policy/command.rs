@@ -1,7 +1,7 @@
 //! `skein policy`: what is done with policy files.
 use super::source::{bytes, text, Unread};
 use super::text::{build, show};
-use super::{fault, fields, read, Field, LONGEST_FILE, RULESET};
+use super::{fault, fields, read, Field, GROUP, LONGEST_FILE, MASKS, RULESET};
 use crate::messages::bad_lines;
 use crate::scenario::{written, Bad};
 use crate::transcript::counted;
@@ -116,8 +116,7 @@ fn check(file: &OsStr) -> Done<String> {
     for ruleset in rulesets {
         let behind = all.iter().filter(|field| field.place > ruleset.place);
         let own = behind.take_while(|field| field.tag != RULESET);
-        // The first of them are the masks.
-        let rules = own.count().saturating_sub(1);
+        let rules: usize = own.map(|field| rules_in(*field)).sum();
         output.push_str(&format!(
             "  byte {}: {}, {}\n",
             ruleset.place,
@@ -126,6 +125,15 @@ fn check(file: &OsStr) -> Done<String> {
         ));
     }
     Ok(output)
+}
+
+/// How many rules a field is or has in it.
+fn rules_in(field: Field) -> usize {
+    match field.tag {
+        MASKS => 0,
+        GROUP => field.inner().map(rules_in).sum(),
+        _ => 1,
+    }
 }
 
 /// Makes a policy file of text.

@@ -13,9 +13,16 @@ const RULESET: u8 = 1;
 const MASKS: u8 = 2;
 const PATH_RULE: u8 = 3;
 const PORT_RULE: u8 = 4;
+const GROUP: u8 = 5;
 
 /// The bytes of a field before its value.
 const HEADER: usize = 3;
+/// The bytes of a group before its fields.
+const GROUP_HEADER: usize = 4;
+/// How many groups may stand inside one another.
+const DEEPEST: usize = 8;
+/// The highest level.
+const LAST_LEVEL: u8 = 6;
 /// The bytes of three masks, of a right set and of a port.
 const MASKS_SIZE: usize = 24;
 const RIGHTS_SIZE: usize = 8;
@@ -41,6 +48,23 @@ fn split_field(bytes: &[u8], place: usize) -> Option<(Field<'_>, &[u8])> {
     let length = usize::from(u16::from_le_bytes([low, high]));
     let (value, rest) = after.split_at_checked(length)?;
     Some((Field { place, tag, value }, rest))
+}
+
+impl<'f> Field<'f> {
+    /// The fields of a group.
+    fn inner(self) -> impl Iterator<Item = Field<'f>> {
+        fields(self.inside(), self.place + GROUP_HEADER)
+    }
+
+    /// Whether it is a group that a place is in, or that ends there.
+    fn is_around(self, place: usize) -> bool {
+        self.tag == GROUP && self.place + HEADER + self.value.len() > place
+    }
+
+    /// The bytes of a group behind its level.
+    fn inside(self) -> &'f [u8] {
+        self.value.get(1..).unwrap_or_default()
+    }
 }
 
 /// The whole fields at the start of some bytes, the first of which stands at a place.

@@ -1,6 +1,7 @@
 //! Policy files as text, one field to a line.
 use super::{
-    fault, fields, Field, LONGEST_FILE, MASKS, PATH_RULE, PORT_RULE, RIGHTS_SIZE, RULESET,
+    fault, fields, Field, GROUP, HEADER, LONGEST_FILE, MASKS, PATH_RULE, PORT_RULE, RIGHTS_SIZE,
+    RULESET,
 };
 use crate::scenario::{number, value, words_of, written, Bad, BadLine, Named, Text};
 use skeinrabbit::{find_policy, Attribute, PolicyRefusal, PortRights, Rights, Scopes};
@@ -11,6 +12,8 @@ struct Built {
     bytes: Vec<u8>,
     /// The place of each field with its line.
     lines: Vec<(usize, usize)>,
+    /// The groups that have no end yet: each one's place with its line.
+    open: Vec<(usize, usize)>,
 }
 
 impl Built {
@@ -18,6 +21,40 @@ impl Built {
     fn line(&self, place: usize) -> usize {
         let before = self.lines.iter().take_while(|(at, _)| *at <= place);
         before.last().map_or(1, |(_, line)| *line)
+    }
+
+    /// Takes what a line says.
+    fn take(&mut self, line: usize, said: Said) -> Result<(), Bad> {
+        let place = self.bytes.len();
+        match said {
+            Said::Nothing => {}
+            Said::Field(field) => {
+                self.lines.push((place, line));
+                self.bytes.extend(field);
+            }
+            Said::Group(level) => {
+                self.lines.push((place, line));
+                self.open.push((place, line));
+                // Its length is written when it ends.
+                self.bytes.extend([GROUP, 0, 0, level]);
+            }
+            Said::End => {
+                let group = self.open.pop();
+                let (start, _) = group.ok_or_else(|| Bad::word("end", "it behind a `group`"))?;
+                self.close(start)?;
+            }
+        }
+        Ok(())
+    }
+
+    /// Writes the length of a group that ends here.
+    fn close(&mut self, start: usize) -> Result<(), Bad> {
+        let length = length_of(self.bytes.len().saturating_sub(start + HEADER))?;
+        let place = self.bytes.get_mut(start + 1..start + HEADER);
+        for (byte, length) in place.into_iter().flatten().zip(length) {
+            *byte = length;
+        }
+        Ok(())
     }
 
     /// The bytes, if the broker finds nothing wrong with them.
@@ -42,15 +79,15 @@ pub fn build(text: &[u8]) -> Result<Vec<u8>, Vec<BadLine>> {
     let mut bad_lines = Vec::new();
     for (place, bytes) in text.split(|byte| *byte == b'\n').enumerate() {
         let line = place + 1;
-        match field_of(bytes) {
-            Ok(None) => {}
-            Ok(Some(field)) => {
-                built.lines.push((built.bytes.len(), line));
-                built.bytes.extend(field);
-            }
-            Err(bad) => bad_lines.push(BadLine { line, bad }),
+        let said = said(bytes).and_then(|said| built.take(line, said));
+        if let Err(bad) = said {
+            bad_lines.push(BadLine { line, bad });
         }
     }
+    bad_lines.extend(built.open.iter().map(|(_, line)| BadLine {
+        line: *line,
+        bad: Bad::new("a group without `end`", "`end` behind its last field"),
+    }));
     if bad_lines.is_empty() {
         built.checked()
     } else {
@@ -58,11 +95,21 @@ pub fn build(text: &[u8]) -> Result<Vec<u8>, Vec<BadLine>> {
     }
 }
 
-/// The bytes of a line's field; none of a line without one.
-fn field_of(line: &[u8]) -> Result<Option<Vec<u8>>, Bad> {
+/// What a line says.
+enum Said {
+    Nothing,
+    /// The bytes of a field.
+    Field(Vec<u8>),
+    /// A group from a level on begins.
+    Group(u8),
+    /// The last group that began ends.
+    End,
+}
+
+fn said(line: &[u8]) -> Result<Said, Bad> {
     let (words, _) = words_of(line)?;
     let Some((word, rest)) = words.split_first() else {
-        return Ok(None);
+        return Ok(Said::Nothing);
     };
     let field = match (*word, rest) {
         ("ruleset", [name]) => put(RULESET, &bytes(name)?)?,
@@ -81,21 +128,33 @@ fn field_of(line: &[u8]) -> Result<Option<Vec<u8>>, Bad> {
             let value = [&rights.bits().to_le_bytes()[..], &port.to_le_bytes()];
             put(PORT_RULE, &value.concat())?
         }
-        _ => return Err(Bad::new(format!("`{}`", words.join(" ")), FORMS)),
+        ("group", [level]) => return level_of(level).map(Said::Group),
+        ("end", []) => return Ok(Said::End),
+        _ => return Err(Bad::word(&words.join(" "), FORMS)),
     };
-    Ok(Some(field))
+    Ok(Said::Field(field))
 }
 
 const FORMS: &str = "`ruleset NAME`, `masks [fs=RIGHTS] [net=RIGHTS] [scope=RIGHTS]`, \
-    `path PATH RIGHTS` or `port PORT RIGHTS`";
+    `path PATH RIGHTS`, `port PORT RIGHTS`, `group LEVEL` or `end`";
+
+fn level_of(word: &str) -> Result<u8, Bad> {
+    let level = number(word, "a level")?;
+    u8::try_from(level).map_err(|_| Bad::word(word, "a level from 1 to 6"))
+}
 
 /// The bytes of a field.
 fn put(tag: u8, value: &[u8]) -> Result<Vec<u8>, Bad> {
-    let Ok(length) = u16::try_from(value.len()) else {
-        let found = format!("a field of {} bytes", value.len());
-        return Err(Bad::new(found, format!("at most {}", u16::MAX)));
-    };
-    Ok([&[tag], &length.to_le_bytes()[..], value].concat())
+    Ok([&[tag], &length_of(value.len())?[..], value].concat())
+}
+
+/// The two bytes of a length.
+fn length_of(length: usize) -> Result<[u8; 2], Bad> {
+    let bytes = u16::try_from(length).map(u16::to_le_bytes);
+    bytes.map_err(|_| {
+        let found = format!("a field of {length} bytes");
+        Bad::new(found, format!("at most {}", u16::MAX))
+    })
 }
 
 /// A name or a path with its escapes.
@@ -144,10 +203,24 @@ pub fn show(bytes: &[u8]) -> String {
         if field.tag == RULESET && !text.is_empty() {
             text.push('\n');
         }
-        text.push_str(&line(field));
-        text.push('\n');
+        put_lines(&mut text, field, 0);
     }
     text
+}
+
+/// The lines of a field that has so many groups around it.
+fn put_lines(text: &mut String, field: Field, around: usize) {
+    let indent = "  ".repeat(around);
+    if field.tag != GROUP {
+        text.push_str(&format!("{indent}{}\n", line(field)));
+        return;
+    }
+    let level = field.value.first().copied().unwrap_or_default();
+    text.push_str(&format!("{indent}group {level}\n"));
+    for inner in field.inner() {
+        put_lines(text, inner, around + 1);
+    }
+    text.push_str(&format!("{indent}end\n"));
 }
 
 fn line(field: Field) -> String {

@@ -669,7 +669,7 @@ const MISTAKES: &[(&str, &str, &str)] = &[
     (
         "access main root 1 -> x",
         "`->`",
-        "create_ruleset, clone, create or link, which make something, or lookup",
+        "create_ruleset, apply_policy, clone, create or link, which make something, or lookup",
     ),
     ("clone main =>", "nothing after `=>`", "an answer"),
     ("clone main => new x", "`x`", "a number"),
