@@ -92,7 +92,7 @@ pub fn link(
     if !named_sound(system, entries, rulesets, layers, pool, threads, names) {
         return Reply::Refused(Errno::EIO);
     }
-    named_moves::link(
+    named_link::link(
         system,
         entries,
         rulesets,
