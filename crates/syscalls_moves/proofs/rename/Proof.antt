@@ -2,8 +2,8 @@
 use borrow.Author.Needs.{needs}
 use Rattle.named.specs.Tree.{renameNamed}
 use Rattle.named.proofs.Replies.{judged-unsound, judged-passes}
-use Rattle.syscalls_tree.proofs.rename.Statement.{statement}
-use Rattle.syscalls_tree.proofs.rename.Tie as tie
+use Rattle.syscalls_moves.proofs.rename.Statement.{statement}
+use Rattle.syscalls_moves.proofs.rename.Tie as tie
 
 pub rename-spec : {M : Type 1} → statement M
 unfolding renameNamed

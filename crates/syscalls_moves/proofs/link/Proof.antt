@@ -2,8 +2,8 @@
 use borrow.Author.Needs.{needs}
 use Rattle.named.specs.Tree.{linkNamed}
 use Rattle.named.proofs.Replies.{judged-unsound, judged-passes}
-use Rattle.syscalls_tree.proofs.link.Statement.{statement}
-use Rattle.syscalls_tree.proofs.link.Tie as tie
+use Rattle.syscalls_moves.proofs.link.Statement.{statement}
+use Rattle.syscalls_moves.proofs.link.Tie as tie
 
 pub link-spec : {M : Type 1} → statement M
 unfolding linkNamed

@@ -2,8 +2,8 @@
 use Rattle.named.specs.Tree.{linkBefore, linkNamedChecks}
 use Rattle.named.proofs.Orders.{link-early, new-early, link-agrees}
 use Rattle.named.proofs.Replies.{target-stops, name-stops, rest-decides}
-use Rattle.named_moves.proofs.link_checks.Statement.{statement}
-use Rattle.named_moves.proofs.link_checks.Tie as tie
+use Rattle.named_link.proofs.link_checks.Statement.{statement}
+use Rattle.named_link.proofs.link_checks.Tie as tie
 
 pub link-checks-spec : {M : Type 1} → statement M
 unfolding linkNamedChecks linkBefore

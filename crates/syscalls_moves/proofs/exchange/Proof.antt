@@ -5,8 +5,8 @@ use borrow.Author.Tests.{not-false}
 use Rattle.named.specs.Tree.{exchangeNamed}
 use Rattle.named.proofs.Made.{core-sound}
 use Rattle.named.proofs.Replies.{judged-unsound, judged-passes}
-use Rattle.syscalls_tree.proofs.exchange.Statement.{statement}
-use Rattle.syscalls_tree.proofs.exchange.Tie as tie
+use Rattle.syscalls_moves.proofs.exchange.Statement.{statement}
+use Rattle.syscalls_moves.proofs.exchange.Tie as tie
 
 pub exchange-spec : {M : Type 1} → statement M
 unfolding exchangeNamed

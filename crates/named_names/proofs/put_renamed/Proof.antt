@@ -1,9 +1,9 @@
 -- Assumes nothing.
-use mathlib.Core.Path.{_≡_, refl, sym, _∙_}
+use mathlib.Core.Path.{refl, sym, _∙_}
 use borrow.Author.Needs.{needs}
 use Rattle.named.specs.Tree.{renamedNames}
-use Rattle.named_moves.proofs.put_renamed.Statement.{statement}
-use Rattle.named_moves.proofs.put_renamed.Tie as tie
+use Rattle.named_names.proofs.put_renamed.Statement.{statement}
+use Rattle.named_names.proofs.put_renamed.Tie as tie
 
 pub put-renamed-spec : {M : Type 1} → statement M
 unfolding renamedNames

@@ -1,7 +1,7 @@
 -- Assumes nothing.
-use Rattle.queue_turn.proofs.Turns.{answered-by}
-use Rattle.queue_turn.proofs.answer.Statement.{statement}
-use Rattle.queue_turn.proofs.answer.Tie as tie
+use Rattle.queue_answer.proofs.Answered.{answered-by}
+use Rattle.queue_answer.proofs.answer.Statement.{statement}
+use Rattle.queue_answer.proofs.answer.Tie as tie
 
 pub answer-spec : {M : Type 1} → statement M
 answer-spec =

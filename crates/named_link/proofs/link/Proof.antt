@@ -1,9 +1,9 @@
 -- Assumes nothing.
 use borrow.Author.Needs.{needs}
 use Rattle.named.proofs.Replies.{told-refused}
-use Rattle.named_moves.proofs.Moving.{link-fit, link-done}
-use Rattle.named_moves.proofs.link.Statement.{statement}
-use Rattle.named_moves.proofs.link.Tie as tie
+use Rattle.named_link.proofs.Linking.{link-fit, link-done}
+use Rattle.named_link.proofs.link.Statement.{statement}
+use Rattle.named_link.proofs.link.Tie as tie
 
 pub link-spec : {M : Type 1} → statement M
 link-spec =
