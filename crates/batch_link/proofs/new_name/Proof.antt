@@ -3,8 +3,8 @@ use borrow.Author.Needs.{needs}
 use Rattle.laws.proofs.Refusals.{join-stop, join-go, first-is, refusals}
 use Rattle.named.specs.Tree.{newName}
 use Rattle.named.proofs.Orders.{name-early}
-use Rattle.batch_calls.proofs.new_name.Statement.{statement}
-use Rattle.batch_calls.proofs.new_name.Tie as tie
+use Rattle.batch_link.proofs.new_name.Statement.{statement}
+use Rattle.batch_link.proofs.new_name.Tie as tie
 
 pub new-name-spec : {M : Type 1} → statement M
 unfolding newName

@@ -2,8 +2,8 @@
 use Rattle.tables.proofs.Blames.{name-stop, name-go}
 use Rattle.verdict.proofs.Answers.{port-last}
 use Rattle.net.specs.Port.{portForm, portChecks}
-use Rattle.batch_calls.proofs.port_reply.Statement.{statement}
-use Rattle.batch_calls.proofs.port_reply.Tie as tie
+use Rattle.batch_access.proofs.port_reply.Statement.{statement}
+use Rattle.batch_access.proofs.port_reply.Tie as tie
 
 pub port-reply-spec : {M : Type 1} → statement M
 unfolding portChecks portForm
