@@ -11,7 +11,7 @@ use Rattle.access.specs.Reply.{replyTo}
 use Rattle.access.specs.declared.errno.Reply.{Reply}
 use Rattle.access.specs.declared.errno.Reply.the-variants.{Refused}
 use Rattle.access.specs.declared.kinds.MaybeKind.{MaybeKind}
-use Rattle.tables.specs.Tables.{Tables, parent, live}
+use Rattle.tables.specs.Tables.{Tables, live}
 use Rattle.tables.specs.Outcome.{named}
 use Rattle.tables.proofs.Blames.{name-stop, name-go}
 use Rattle.sound_tree.specs.Fast.{ParentsLive}

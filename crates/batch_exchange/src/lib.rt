@@ -47,6 +47,17 @@ pub fn exchange_reply(
         return Reply::Refused(Errno(b));
     }
     let m = exchange_move(needs, entries, s, d, x);
-    let denial = move_denial(entries, layers, pool, threads, orders, rows, marks, top, t, m);
+    let denial = move_denial(
+        entries,
+        layers,
+        pool,
+        threads,
+        orders,
+        rows,
+        marks,
+        top,
+        t,
+        m,
+    );
     denial.reply()
 }

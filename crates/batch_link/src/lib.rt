@@ -80,6 +80,17 @@ pub fn link_reply(
         return Reply::Refused(Errno::EPERM);
     }
     let m = link_move(needs, entries, s, d);
-    let denial = move_denial(entries, layers, pool, threads, orders, rows, marks, top, t, m);
+    let denial = move_denial(
+        entries,
+        layers,
+        pool,
+        threads,
+        orders,
+        rows,
+        marks,
+        top,
+        t,
+        m,
+    );
     denial.reply()
 }

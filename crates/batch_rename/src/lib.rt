@@ -57,6 +57,17 @@ pub fn rename_reply(
     }
     let x = bearer_by_index(entries, names, heads, links, whole, d, name);
     let m = rename_move(needs, entries, s, d, x);
-    let denial = move_denial(entries, layers, pool, threads, orders, rows, marks, top, t, m);
+    let denial = move_denial(
+        entries,
+        layers,
+        pool,
+        threads,
+        orders,
+        rows,
+        marks,
+        top,
+        t,
+        m,
+    );
     denial.reply()
 }

@@ -1,6 +1,6 @@
 -- How orders come to be filled, and what they list. Assumes nothing.
-use mathlib.Core.Path.{_≡_, refl, sym, ap, _∙_}
-use mathlib.Core.List.{List, []}
+use mathlib.Core.Path.{_≡_, refl, ap, _∙_}
+use mathlib.Core.List.{List}
 use Prim.Native.Nat.{ℕ, zero, suc, _+_, _-_, _*_, _≤_, _<_}
 use native.Mathlib.Nat.{not-suc-le-zero}
 use native.Mathlib.Numerals.{sub-one, add-one}
@@ -11,7 +11,7 @@ use borrow.Author.Tests.{eqb-true, eqb-false}
 use Rattle.laws.specs.Cells.{cell}
 use Rattle.laws.proofs.Bools.{split}
 use Rattle.laws.proofs.Cells.{cell-put, cell-put-beside, cell-put-other, part-at, part-length}
-use Rattle.access.specs.Limits.{maxDomain, maxLayers, maxThreads}
+use Rattle.access.specs.Limits.{maxDomain, maxThreads}
 use Rattle.tables.specs.Tables.{youngest}
 use Rattle.tables.specs.Layers.{layerParent}
 use Rattle.judge.specs.Domain.{chain}

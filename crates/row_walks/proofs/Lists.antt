@@ -14,7 +14,6 @@ use Rattle.verdict.specs.Denial.{keptAt, keptSet, crossedAt, denial}
 use Rattle.domain_order.specs.Order.{listFrom, listed}
 
 module _ (order : List ℕ) (a b : ℕ → ℕ) where
-
   rest-step : (n i : ℕ) → (n ≡ 0 → ⊥) → listed order i n ≡ listFrom (getD order i 0) (listed order (suc i) (n - 1))
   unfolding listed
   rest-step zero i d = absurd (d refl)

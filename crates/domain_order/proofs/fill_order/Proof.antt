@@ -1,9 +1,8 @@
 -- The invariant: the cells before `i` are filled, and `at` goes into the next one. Assumes nothing.
-use mathlib.Core.Path.{_≡_, refl}
+use mathlib.Core.Path.{_≡_}
 use Prim.Native.Nat.{_-_, _≤_}
 use native.Mathlib.Omega.{arith}
 use Rattle.access.specs.Limits.{maxDomain}
-use Rattle.denied_rows.specs.Rows.{topOf}
 use Rattle.denied_rows.proofs.Kept.{top-few}
 use Rattle.domain_order.specs.Order.{upBy, OrderTo}
 use Rattle.domain_order.proofs.Orders.{order-none, order-more, by-below, by-first, by-next}
