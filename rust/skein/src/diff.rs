@@ -3,7 +3,7 @@ use crate::json::Json;
 use crate::lines::broken;
 use crate::messages::not_as_written;
 use crate::outcome::{Outcome, View, BAD_INPUT, FOUND};
-use crate::picture::{Held, Picture};
+use crate::picture::{is_above, Held, Picture};
 use crate::play::{reach, Play};
 use crate::transcript::rights_json;
 use crate::words::{escaped, shown};
@@ -315,8 +315,12 @@ impl ThreadDifference {
     }
 
     fn lines(&self) -> Vec<Line> {
-        let entries = self.entries.iter().map(|change| Line {
-            about: shown(&change.place, WIDEST),
+        let entries = folded(&self.entries);
+        let entries = entries.into_iter().map(|(change, below)| Line {
+            about: match below {
+                0 => shown(&change.place, WIDEST),
+                _ => format!("{} and {below} below", shown(&change.place, WIDEST)),
+            },
             gained: named(change.gained, change.gained.is_empty()),
             lost: named(change.lost, change.lost.is_empty()),
         });
@@ -363,6 +367,25 @@ impl ThreadDifference {
             ("scopes", Json::list(&self.reached, scope)),
         ])
     }
+}
+
+/// The changes but those that are the same as one above, as far as their kind has the rights; and how many these are.
+fn folded(changes: &[Change<String, Rights>]) -> Vec<(&Change<String, Rights>, usize)> {
+    let mut folded: Vec<(&Change<String, Rights>, usize)> = Vec::new();
+    let both = |change: &Change<String, Rights>, kept| (change.gained & kept, change.lost & kept);
+    for change in changes {
+        let mut above = folded.iter_mut().rev();
+        let above = above.find(|(above, _)| is_above(&above.place, &change.place));
+        let same = |above: &Change<String, Rights>| {
+            let mut kinds = [Rights::ALL, Rights::FILE_SET].into_iter();
+            kinds.any(|kept| both(above, kept) == both(change, Rights::ALL))
+        };
+        match above {
+            Some((above, below)) if same(above) => *below += 1,
+            _ => folded.push((change, 0)),
+        }
+    }
+    folded
 }
 
 fn changed(key: &'static str, place: Json, gained: Json, lost: Json) -> Json {

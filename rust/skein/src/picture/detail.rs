@@ -1,5 +1,6 @@
 //! Threads and entries in detail: every right by its name, and which layer denies it.
 use super::text::{domain, entry_label, heading, is_drawn, push_trimmed, stairs};
+use super::tree::is_above;
 use super::{Chosen, Explained, Held, Node, Picture, ThreadView};
 use crate::lines::broken;
 use crate::outcome::View;
@@ -7,6 +8,7 @@ use crate::paint::Paint;
 use crate::words::shown;
 use skeinrabbit::{Layer, Rights};
 use std::collections::BTreeMap;
+use std::fmt::Display;
 
 /// The widest name of a thread or a path.
 const WIDEST: usize = 60;
@@ -63,7 +65,7 @@ fn entry(picture: &Picture, place: usize, node: &Node, view: &View) -> String {
 }
 
 /// Which layer denies which rights, in words.
-fn denied_by(by: &BTreeMap<Layer, Rights>) -> String {
+pub fn denied_by<R: Display>(by: &BTreeMap<Layer, R>) -> String {
     by.iter()
         .map(|(layer, rights)| format!("; layer {layer} denies {rights}"))
         .collect()
@@ -83,12 +85,6 @@ fn rules_above(picture: &Picture, node: &Node) -> Vec<String> {
         }
     }
     lines
-}
-
-/// Whether a path is another one or leads to it.
-fn is_above(path: &str, other: &str) -> bool {
-    let rest = other.strip_prefix(path);
-    path == "/" || rest.is_some_and(|rest| rest.is_empty() || rest.starts_with('/'))
 }
 
 fn object_label(node: &Node) -> String {
@@ -127,10 +123,7 @@ fn ports(thread: &ThreadView, paint: Paint) -> String {
     let mut out = format!("\n{}\n", paint.heading("port   may"));
     for at in &thread.ports {
         let port = at.port.map_or("other".to_owned(), |port| port.to_string());
-        let by = at.held.by.iter();
-        let by: String = by
-            .map(|(layer, rights)| format!("; layer {layer} denies {rights}"))
-            .collect();
+        let by = denied_by(&at.held.by);
         out.push_str(&format!("{port:<5}  {}{by}\n", at.held.granted));
     }
     out

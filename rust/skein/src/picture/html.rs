@@ -1,9 +1,9 @@
 //! The picture as a page of its own: tree and matrix, ports, threads, layers and scopes.
+use super::detail::denied_by;
 use super::letters::{at_entry, at_port, of_files, of_ports, Mark};
 use super::text::{holders, place, rights};
 use super::{Explained, Held, LayerView, Node, Picture, ScopeView, ThreadView};
 use skeinrabbit::{Kind, Layer};
-use std::collections::BTreeMap;
 use std::fmt::Display;
 
 const STYLE: &str = include_str!("page.css");
@@ -80,7 +80,10 @@ fn entries(picture: &Picture) -> String {
     }
     out.push_str("<input id=\"filter\" type=\"search\" placeholder=\"Show paths with\" aria-label=\"Show paths with\">\n");
     out.push_str(&table(&head, &rows));
-    out.push_str(&legend(&of_files(picture.columns)));
+    out.push_str(&legend(
+        &of_files(picture.columns),
+        "- denied, . not a right of this kind of entry",
+    ));
     out
 }
 
@@ -121,25 +124,18 @@ fn cell<R: Display>(marks: &[Mark], held: &Held<R>) -> String {
             other => format!("<i>{}</i>", other.letter()),
         })
         .collect();
-    let title = escaped(format!("granted: {}{}", held.granted, denied(&held.by)));
+    let title = escaped(format!("granted: {}{}", held.granted, denied_by(&held.by)));
     format!("<td class=\"cell\" title=\"{title}\">{letters}</td>")
 }
 
-fn denied<R: Display>(by: &BTreeMap<Layer, R>) -> String {
-    let line = |(layer, rights): (&Layer, &R)| format!("; layer {layer} denies {rights}");
-    by.iter().map(line).collect()
-}
-
-fn legend(letters: &[(char, String)]) -> String {
+fn legend(letters: &[(char, String)], rest: &str) -> String {
     let items: String = letters
         .iter()
         .map(|(letter, name)| format!("<li><span class=\"letter\">{letter}</span> {name}</li>"))
         .collect();
-    let rest =
-        "<li class=\"dim\">- denied</li><li class=\"dim\">. not a right of this kind of entry</li>";
     match letters {
         [] => String::new(),
-        _ => format!("<ul class=\"legend\">{items}{rest}</ul>\n"),
+        _ => format!("<ul class=\"legend\">{items}<li class=\"dim\">{rest}</li></ul>\n"),
     }
 }
 
@@ -162,7 +158,7 @@ fn ports(picture: &Picture) -> String {
     };
     let numbers = first.iter().map(|at| at.port).enumerate();
     let rows: String = numbers.map(row).collect();
-    let legend = legend(&of_ports());
+    let legend = legend(&of_ports(), "- denied");
     format!("<h2>Ports</h2>\n{}{legend}", table(&head, &rows))
 }
 

@@ -8,7 +8,7 @@ mod tree;
 
 pub use json::json;
 pub use text::text;
-pub use tree::Node;
+pub use tree::{is_above, Node};
 
 use crate::messages::{not_as_written, not_drawn};
 use crate::named::{entries, threads};

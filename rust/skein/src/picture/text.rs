@@ -55,9 +55,9 @@ impl Matrix {
         let names: Vec<String> = self.columns.iter().map(|name| shown(name, room)).collect();
         let column = widest(&mut names.iter().map(|name| name.chars().count())).max(rights);
         let rows = widest(&mut self.rows.iter().map(|row| row.chars().count()));
-        let left = rows
-            .max(self.title.len())
-            .min(width.saturating_sub(column + 2));
+        // Long paths leave room for all columns, or for some of them.
+        let room = width.saturating_sub(names.len() * (column + 2));
+        let left = rows.max(self.title.len()).min(room.max(width * 2 / 5));
         let fit = (width.saturating_sub(left) / (column + 2)).max(1);
         let parts = names.chunks(fit).zip(self.cells.chunks(fit));
         let parts = parts.map(|(names, cells)| {
@@ -256,7 +256,7 @@ pub fn handled(view: &LayerView) -> String {
         (!attribute.fs.is_empty()).then(|| attribute.fs.to_string()),
         (!unasked.is_empty()).then(|| format!("{unasked} unasked")),
         (!attribute.net.is_empty()).then(|| attribute.net.to_string()),
-        (!attribute.scope.is_empty()).then(|| format!("the scopes {}", attribute.scope)),
+        (!attribute.scope.is_empty()).then(|| format!("scope {}", attribute.scope)),
     ];
     parts
         .into_iter()

@@ -136,6 +136,23 @@ fn is_one_sandbox(tables: &Tables, threads: &[Thread]) -> bool {
 }
 
 impl Found {
+    /// What is found, in words.
+    fn said(&self, threads: &[String]) -> String {
+        let Found {
+            thread,
+            right,
+            path,
+            calls,
+            ..
+        } = self;
+        let lacked = match threads {
+            [_] => "it lacked".to_owned(),
+            threads => format!("none of {} had", listed(threads)),
+        };
+        let calls = counted(calls.len(), "call");
+        format!("Found with {calls}: {thread} comes to {right} at {path}, which {lacked}.")
+    }
+
     /// Makes the steps again, and writes them down.
     fn of(player: &Player, threads: &[Thread], goal: &Goal, steps: &[Step]) -> Option<Found> {
         let mut tables = player.tables.clone();
@@ -199,41 +216,53 @@ impl Searched {
     /// A scenario to be played behind the file, where something is found; else what was looked at.
     fn text(&self, name: &str, width: usize) -> String {
         let states = counted(self.states, "state");
-        let threads = listed(&self.threads);
-        let mut out = String::new();
-        let mut say = |line: &str| {
-            let lines = broken(line, 0, width.saturating_sub(2));
-            let marked = lines.lines().map(|line| format!("# {line}\n"));
-            out.push_str(&marked.collect::<String>());
+        let mut said = match &self.found {
+            Some(found) => vec![
+                found.said(&self.threads),
+                format!("{states} looked at. To be played behind {name}:"),
+            ],
+            None => vec![self.none(), format!("{states} looked at.")],
         };
-        if let Some(found) = &self.found {
-            let Found {
-                thread,
-                right,
-                path,
-                ..
-            } = found;
-            let calls = counted(found.calls.len(), "call");
-            say(&format!("Found with {calls}: {thread} comes to {right} at {path}, which none of {threads} had."));
-            say(&format!("{states} looked at. To be played behind {name}:"));
-            found
-                .scenario
-                .iter()
-                .for_each(|line| out.push_str(&format!("{line}\n")));
-            return out;
-        }
-        say(&match self.ended {
-            Ended::Exhausted { .. } => format!("None: {threads} come to no right that each of them lacked, by any number of calls."),
-            Ended::Undecided { depth } => format!("None to depth {depth}: {threads} come to no right that each of them lacked, by {} or fewer. There are more states than may be looked at before depth {} (--states).", counted(depth, "call"), self.depth),
-            _ => format!("None to depth {}: {threads} come to no right that each of them lacked, by {} or fewer.", self.depth, counted(self.depth, "call")),
-        });
-        say(&format!("{states} looked at."));
         if self.one_sandbox {
-            say(&format!(
-                "They are one sandbox, so it is a theorem for any number of calls ({THEOREM})."
-            ));
+            let who = match self.threads.len() {
+                1 => "That is",
+                _ => "They are",
+            };
+            let theorem = "so it is a theorem, for any number of calls";
+            said.push(format!("{who} one sandbox, {theorem} ({THEOREM})."));
+        }
+        let said = said
+            .iter()
+            .map(|line| broken(line, 0, width.saturating_sub(2)));
+        let said: String = said.collect();
+        let mut out: String = said.lines().map(|line| format!("# {line}\n")).collect();
+        for line in self.found.iter().flat_map(|found| &found.scenario) {
+            out.push_str(&format!("{line}\n"));
         }
         out
+    }
+
+    /// That nothing was found, and how far was looked.
+    fn none(&self) -> String {
+        let nothing = match self.threads.as_slice() {
+            [one] => format!("{one} comes to no right that it lacked"),
+            threads => {
+                let threads = listed(threads);
+                format!("{threads} together come to no right that each of them lacked")
+            }
+        };
+        let within = |depth: usize| {
+            let calls = counted(depth, "call");
+            format!("None to depth {depth}: {nothing}, by {calls} or fewer.")
+        };
+        match self.ended {
+            Ended::Exhausted { .. } => format!("None: {nothing}, by any number of calls."),
+            Ended::Undecided { depth } => {
+                let more = "there are more states than may be looked at (--states)";
+                format!("{} Before depth {} {more}.", within(depth), self.depth)
+            }
+            _ => within(self.depth),
+        }
     }
 
     fn json(&self, name: &str) -> Json {
