@@ -11,6 +11,8 @@
 )]
 
 mod args;
+#[cfg(test)]
+mod brute;
 mod demo;
 mod diff;
 #[cfg(test)]

@@ -272,7 +272,7 @@ impl Mask {
         self == self.none()
     }
 
-    fn joined(self, other: Mask) -> Mask {
+    pub fn joined(self, other: Mask) -> Mask {
         match (self, other) {
             (Mask::Files(one), Mask::Files(two)) => Mask::Files(one | two),
             (Mask::Ports(one), Mask::Ports(two)) => Mask::Ports(one | two),

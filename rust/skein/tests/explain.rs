@@ -106,10 +106,6 @@ fn what_is_asked_about_must_be_there() {
             "--entry=/cal/tabel",
             "there is no entry `/cal/tabel` at the end; expected one: perhaps `/cal/table`\n",
         ),
-        (
-            "--entry=cale",
-            "there is no entry `cale` at the end; expected one: perhaps `/cal`\n",
-        ),
     ] {
         for json in [&[][..], &["--json"]] {
             let words = [&["explain", "-", option], json].concat();
@@ -610,7 +606,7 @@ fn pictures_fit_in_80_columns() {
     }
     assert!(whole.out.contains(" 16 17 18 "), "{}", whole.out);
     assert!(
-        whole.out.contains("\n…n/nnnnnnn/nnnnnnnn  "),
+        whole.out.contains("\n…n/nnnnn/nnnnnn/nnnnnnn/nnnnnnnn  "),
         "{}",
         whole.out
     );

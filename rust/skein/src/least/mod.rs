@@ -44,7 +44,7 @@ pub fn least(view: &View, name: &str, scenario: &Scenario, traced: &Traced) -> O
     let rules = match trace.least() {
         Ok(rules) => rules,
         Err(reason) => {
-            let message = format!("No policy lets every call succeed: {reason}.\n");
+            let message = format!("No policy lets every call succeed: {reason}.");
             return Outcome::output(match view.json {
                 true => format!("{}\n", trace.json(name, None, Some(&reason))),
                 false => broken(&message, 4, view.width),
@@ -349,3 +349,6 @@ impl Policy {
         ])
     }
 }
+
+#[cfg(test)]
+mod tests;
