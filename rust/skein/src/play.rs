@@ -206,7 +206,7 @@ impl Player {
         let mut rules = Vec::new();
         let mut part = Vec::new();
         let (answer, report) = match &statement.call {
-            Call::Fresh { level } => (done(self.tables.fresh(*level)), None),
+            Call::Fresh { level } => (self.fresh(*level), None),
             Call::Ruleset(call) => (self.ruleset_call(call)?, None),
             Call::LayerRules { layer } => (self.layer_rules(*layer, &mut rules), None),
             Call::Thread { thread, call } => self.thread_call(thread, call)?,
@@ -238,6 +238,14 @@ impl Player {
     pub fn at(&mut self, statement: &Statement, round: u64) {
         self.line = statement.line;
         self.round = round;
+    }
+
+    fn fresh(&mut self, level: Level) -> Answer {
+        let made = self.tables.fresh(level);
+        if made.is_ok() {
+            self.restricted.clear();
+        }
+        done(made)
     }
 
     fn ruleset_call(&mut self, call: &RulesetCall) -> Result<Answer, Bad> {

@@ -159,11 +159,9 @@ impl Policy {
             let name = &self.name;
             NoRule::Other(format!("the policy of {name} is refused: {errno}"))
         };
-        let attribute = attribute_bytes(self.handled, player.tables.level().number());
-        let ruleset = player
-            .tables
-            .create_ruleset(&attribute, 0)
-            .map_err(refused)?;
+        let attribute = self.handled.to_bytes();
+        let ruleset = player.tables.create_ruleset(&attribute, 0);
+        let ruleset = ruleset.map_err(refused)?;
         for ((_, spot), rights) in rules.iter().filter(|((of, _), _)| *of == place) {
             add(player, ruleset, spot, *rights)?;
         }
@@ -193,16 +191,6 @@ impl Policy {
         ]);
         lines
     }
-}
-
-/// The bytes of an attribute, as many as the level knows.
-fn attribute_bytes(handled: Attribute, level: u64) -> Vec<u8> {
-    let known = match level {
-        0..=3 => 8,
-        4 | 5 => 16,
-        _ => 24,
-    };
-    handled.to_bytes().into_iter().take(known).collect()
 }
 
 /// Every right that a ruleset can handle at the level.

@@ -2,7 +2,7 @@
 use super::detail::denied_by;
 use super::letters::{at_entry, at_port, of_files, of_ports, Mark};
 use super::text::{holders, place, rights};
-use super::{Explained, Held, LayerView, Node, Picture, ScopeView, ThreadView};
+use super::{Explained, Held, LayerView, Node, Picture, RuleView, ScopeView, ThreadView};
 use skeinrabbit::{Kind, Layer};
 use std::fmt::Display;
 
@@ -205,6 +205,17 @@ fn layer(view: &LayerView, threads: &[ThreadView]) -> String {
         Some(parent) => format!("<a class=\"chip\" href=\"#layer-{parent}\">layer {parent}</a>"),
         None => "<span class=\"dim\">none</span>".to_owned(),
     };
+    format!(
+        "<article class=\"card\" id=\"layer-{number}\"><h3>Layer {number}</h3>\n<dl><dt>parent</dt><dd>{parent}</dd>\
+         <dt>held by</dt><dd>{}</dd>{}</dl>\n<h3 class=\"rules\">Rules</h3>\n{}</article>\n",
+        escaped(holders(view, threads)),
+        handled(view),
+        rules(view)
+    )
+}
+
+/// What a layer handles: rights at entries and ports, and scopes.
+fn handled(view: &LayerView) -> String {
     let chips = |names: &mut dyn Iterator<Item = String>| -> String {
         names
             .map(|name| format!("<span class=\"chip\">{name}</span>"))
@@ -215,31 +226,27 @@ fn layer(view: &LayerView, threads: &[ThreadView]) -> String {
     let asked = attribute.fs.iter().map(|right| right.to_string());
     let unasked = unasked.iter().map(|right| format!("{right} (unasked)"));
     let net = attribute.net.iter().map(|right| right.to_string());
-    let handled = chips(&mut asked.chain(unasked).chain(net));
+    let rights = chips(&mut asked.chain(unasked).chain(net));
     let scopes = chips(&mut attribute.scope.iter().map(|scope| scope.to_string()));
-    let rules: String = view
-        .rules
-        .iter()
-        .map(|rule| {
-            let (place, rights) = (escaped(place(rule)), rights(&rule.rule));
-            let rights = rights.replace('+', ", ");
-            format!("<dt class=\"path\">{place}</dt><dd>{rights}</dd>")
-        })
-        .collect();
-    let rules = match view.rules.len() {
-        0 => "<p class=\"dim\">No rules: all that it handles is denied everywhere.</p>".to_owned(),
+    let parts = [("handles", rights), ("scopes", scopes)];
+    let parts = parts.into_iter().filter(|(_, chips)| !chips.is_empty());
+    parts
+        .map(|(what, chips)| format!("<dt>{what}</dt><dd>{chips}</dd>"))
+        .collect()
+}
+
+/// The rules of a layer: where, and what they grant.
+fn rules(view: &LayerView) -> String {
+    let rule = |rule: &RuleView| {
+        let (place, rights) = (escaped(place(rule)), rights(&rule.rule));
+        let rights = rights.replace('+', ", ");
+        format!("<dt class=\"path\">{place}</dt><dd>{rights}</dd>")
+    };
+    let rules: String = view.rules.iter().map(rule).collect();
+    match view.rules.len() {
+        0 => "<p class=\"dim\">No rules: what it handles of entries and ports is denied everywhere.</p>".to_owned(),
         _ => format!("<dl>{rules}</dl>"),
-    };
-    let scopes = match attribute.scope.is_empty() {
-        true => String::new(),
-        false => format!("<dt>scopes</dt><dd>{scopes}</dd>"),
-    };
-    format!(
-        "<article class=\"card\" id=\"layer-{number}\"><h3>Layer {number}</h3>\n<dl><dt>parent</dt><dd>{parent}</dd>\
-         <dt>held by</dt><dd>{}</dd><dt>handles</dt><dd>{handled}</dd>{scopes}</dl>\n\
-         <h3 style=\"margin-top:.8rem\">Rules</h3>\n{rules}</article>\n",
-        escaped(holders(view, threads))
-    )
+    }
 }
 
 /// A table of threads by threads.
