@@ -146,7 +146,7 @@ fn grouped(rule: Vec<u8>, masks: [u64; 3], model: &Model, random: &mut Random) -
     let deepest = DEEPEST as u64;
     let depth = match random.below(10) {
         0 => deepest,
-        1 => random.between(3, deepest + 2),
+        1..=3 => random.between(3, deepest + 1),
         _ => random.between(1, 2),
     };
     let mut fields = match random.chance(15) {
@@ -156,8 +156,8 @@ fn grouped(rule: Vec<u8>, masks: [u64; 3], model: &Model, random: &mut Random) -
     for _ in 0..depth {
         let level = match random.below(40) {
             0 => random.pick(&[0, 7, 255]),
-            1..=12 => model.level.max(1) as u8,
-            13..=24 => random.between(1, 6) as u8,
+            1..=10 => model.level.max(1) as u8,
+            11..=18 => random.between(1, 6) as u8,
             _ => 1,
         };
         fields = group(level, &fields);
@@ -227,8 +227,8 @@ fn damage(file: &mut Vec<u8>, random: &mut Random) {
     let place = random.pick(&fields);
     let end = fields.iter().copied().find(|end| *end > place);
     let end = end.unwrap_or(file.len());
-    match random.below(18) {
-        14 => {
+    match random.below(20) {
+        14 | 18 | 19 => {
             let inner = match random.below(6) {
                 0 => Vec::new(),
                 1 => opening(b"p", [4, 0, 0]),
