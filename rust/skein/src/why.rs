@@ -1,8 +1,9 @@
 //! `skein why`: which layer refused a line, for which rights, and the least rules that would grant it.
 use crate::json::Json;
-use crate::lines::{broken, Row};
+use crate::lines::Row;
 use crate::named::path_of;
 use crate::outcome::{Outcome, View, BAD_INPUT};
+use crate::picture::heading;
 use crate::play::{Played, Player};
 use crate::remedy::{add, call_text, least, missing, NoRule, Refused, Rules, Tried};
 use crate::request::{Asked, Request};
@@ -288,7 +289,7 @@ fn why_text(why: &Why, view: &View) -> String {
     let statement = why.played.statement;
     let call = shown(&statement.text, view.width.saturating_sub(24));
     let head = format!("{}  {call}  {}", statement.line, why.played.answer);
-    let mut out = broken(&view.paint.heading(&head), 8, view.width);
+    let mut out = heading(&head, view.width, view.paint);
     let mut say = |line: &str| {
         let mut row = Row::new(6, view.width);
         row.fill(4, line);

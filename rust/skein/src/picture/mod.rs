@@ -7,7 +7,7 @@ mod text;
 mod tree;
 
 pub use json::json;
-pub use text::text;
+pub use text::{heading, text};
 pub use tree::{is_above, Node};
 
 use crate::messages::{not_as_written, not_drawn};

@@ -253,7 +253,7 @@ impl Searched {
         };
         let within = |depth: usize| {
             let calls = counted(depth, "call");
-            format!("None to depth {depth}: {nothing}, by {calls} or fewer.")
+            format!("None to depth {depth}: {nothing}, by at most {calls}.")
         };
         match self.ended {
             Ended::Exhausted { .. } => format!("None: {nothing}, by any number of calls."),
