@@ -473,14 +473,14 @@ impl<B: Broker> Session<'_, B> {
         None
     }
 
-    /// A name in policy files, applied more often than found.
+    /// A name in policy files, found or applied.
     fn policy(&mut self, run: &mut Run) -> Option<Difference> {
         let model = self.pair.reference.model();
         let model = model.unwrap_or(&self.case.start);
         let wanted = files::wanted(model, &mut run.policy_random);
-        let step = match run.policy_random.below(4) {
-            0 => Step::FindPolicy(wanted),
-            _ => Step::ApplyPolicy(wanted),
+        let step = match run.policy_random.chance(40) {
+            true => Step::FindPolicy(wanted),
+            false => Step::ApplyPolicy(wanted),
         };
         self.take(run.tally, step)
     }

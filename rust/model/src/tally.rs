@@ -189,19 +189,7 @@ const REFUSALS: [(&str, &[Refusal]); 27] = [
             OtherNotContained,
         ],
     ),
-    (
-        "lookup",
-        &[
-            EmptyPath,
-            PathTooLong,
-            RelativePath,
-            PathWithZero,
-            AfterNonDirectory,
-            SlashAfterNonDirectory,
-            ComponentTooLong,
-            NoSuchName,
-        ],
-    ),
+    ("lookup", &LOOKUP),
     ("component", &[]),
     (
         "post",
@@ -225,14 +213,6 @@ const REFUSALS: [(&str, &[Refusal]); 27] = [
             UnknownBit,
             NothingHandled,
             NoFreeRuleset,
-            EmptyPath,
-            PathTooLong,
-            RelativePath,
-            PathWithZero,
-            AfterNonDirectory,
-            SlashAfterNonDirectory,
-            ComponentTooLong,
-            NoSuchName,
             NoRights,
             RightsNotHandled,
             SweepingRule,
@@ -242,8 +222,20 @@ const REFUSALS: [(&str, &[Refusal]); 27] = [
     ),
 ];
 
+/// The refusals of a lookup, which an application of a policy file makes too.
+const LOOKUP: [Refusal; 8] = [
+    EmptyPath,
+    PathTooLong,
+    RelativePath,
+    PathWithZero,
+    AfterNonDirectory,
+    SlashAfterNonDirectory,
+    ComponentTooLong,
+    NoSuchName,
+];
+
 /// What may be wrong with a policy file.
-const FAULTS: [Refusal; 18] = [
+pub const FAULTS: [Refusal; 18] = [
     FileTooLong,
     StrayBytes,
     ValuePastEnd,
@@ -448,9 +440,10 @@ impl Tally {
         let asked = asked().filter(|asked| !self.asked.contains_key(asked));
         let lists = Lists::ALL.iter();
         let lists = lists.filter(|lists| !self.lists.contains_key(lists));
-        let groups = (0..=DEEPEST).flat_map(|depth| [false, true].map(|some| (depth, some)));
-        let groups =
-            groups.filter(|groups| *groups != (0, true) && !self.groups.contains_key(groups));
+        // Rules are left out at any depth; that they are is asked for where that is often.
+        let depths = (0..=DEEPEST).map(|depth| (depth, false));
+        let groups = depths.chain([(1, true), (2, true)]);
+        let groups = groups.filter(|groups| !self.groups.contains_key(groups));
         let faults = faults().filter(|faulty| !self.faults.contains_key(faulty));
         let lines = refusals.map(|(call, refusal)| format!("{call} {}", refusal_text(refusal)));
         lines
@@ -485,11 +478,12 @@ impl Tally {
 
 /// Each call with each of its refusals.
 fn refusals() -> impl Iterator<Item = (&'static str, Refusal)> {
-    REFUSALS.iter().flat_map(|(call, refusals)| {
+    let refusals = REFUSALS.iter().flat_map(|(call, refusals)| {
         let unsound = (!WITHOUT_SOUNDNESS.contains(call)).then_some(NotSound);
         let all = unsound.into_iter().chain(refusals.iter().copied());
         all.map(|refusal| (*call, refusal))
-    })
+    });
+    refusals.chain(LOOKUP.map(|refusal| ("apply_policy", refusal)))
 }
 
 /// Each call with a report, with each length and each answer that the report depends on: a success,
@@ -502,7 +496,7 @@ fn reports() -> impl Iterator<Item = Report> {
         NotContained,
         OtherNotContained,
         NoSuchRuleset,
-        NoSuchName,
+        RightsNotHandled,
     ];
     let reporting = REFUSALS.iter().filter(|(call, refusals)| {
         let saying = ["layer_rules", "component", "find_policy", "apply_policy"];

@@ -4,6 +4,11 @@ use std::collections::BTreeMap;
 const DECLARED: &str = include_str!("../src/lib.rs");
 const PROVED: &str = include_str!("../../../crates/capi/src/lib.rt");
 
+/// The proved exports without lifetimes, which say nothing of what is written.
+fn proved_source() -> &'static str {
+    PROVED.replace("<'a>", "").replace("&'a ", "&").leak()
+}
+
 /// Whether each table may be changed, by export.
 type Changes = BTreeMap<&'static str, [bool; 7]>;
 
@@ -43,7 +48,7 @@ fn proved() -> Changes {
         ("threads", "u64"),
         ("names", "u8"),
     ];
-    let exports = PROVED.split("extern \"C\" fn skein_").skip(1);
+    let exports = proved_source().split("extern \"C\" fn skein_").skip(1);
     let with_tables = exports.filter(takes_tables);
     with_tables
         .map(|export| {
@@ -73,7 +78,7 @@ fn tables_are_writable_exactly_where_the_proved_export_writes() {
 
 /// The parameters of an export that are the parts of a queue, each with whether it may be changed.
 fn proved_queue(name: &str) -> Vec<(&str, bool)> {
-    let export = PROVED.split("extern \"C\" fn skein_");
+    let export = proved_source().split("extern \"C\" fn skein_");
     let export = export.skip(1).find(|export| export.starts_with(name));
     let (parameters, _) = export.unwrap().split_once(") -> u64").unwrap();
     let parameters = parameters.lines().filter_map(|line| {
@@ -111,7 +116,7 @@ fn parts_of_a_queue_are_writable_exactly_where_the_proved_export_writes() {
 
 /// The kinds of an export's parameters after the first ones.
 fn proved_kinds(name: &str, first: usize) -> Vec<&'static str> {
-    let export = PROVED.split("extern \"C\" fn skein_");
+    let export = proved_source().split("extern \"C\" fn skein_");
     let export = export.skip(1).find(|export| export.starts_with(name));
     let (parameters, _) = export.unwrap().split_once(") -> u64").unwrap();
     let kinds = parameters.lines().filter_map(|line| line.split_once(": "));

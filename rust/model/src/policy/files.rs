@@ -227,41 +227,16 @@ fn damage(file: &mut Vec<u8>, random: &mut Random) {
     let place = random.pick(&fields);
     let end = fields.iter().copied().find(|end| *end > place);
     let end = end.unwrap_or(file.len());
+    if random.chance(50) {
+        let faulty = random.pick(&[0, 1, 2, 3, 4, 5, 6, 7, 8, 9, 10]);
+        file.splice(place..place, faulty_field(faulty));
+        return;
+    }
     match random.below(20) {
-        14 | 18 | 19 => {
-            let inner = match random.below(6) {
-                0 => Vec::new(),
-                1 => opening(b"p", [4, 0, 0]),
-                2 => field(2, &[0; MASKS]),
-                3 => vec![3, 8],
-                4 => vec![3, 9, 0, 4, 0, 0, 0, 0, 0, 0, 0],
-                _ => field(random.pick(&[0, 6, 16]), &[]),
-            };
-            let levels = [0, 1, 1, 1, 6, 6, 7];
-            let group = match random.chance(10) {
-                true => field(5, &[]),
-                false => group(random.pick(&levels), &inner),
-            };
-            file.splice(place..place, group);
+        way @ (10 | 11 | 14 | 15 | 18 | 19) => {
+            let put = another_field(way, random);
+            file.splice(place..place, put);
         }
-        15 => {
-            let depth = DEEPEST + random.below(3) as usize;
-            file.splice(place..place, nested(depth, &path_rule(4, b"/")));
-        }
-        16 => {
-            // Somewhere in a group, perhaps.
-            let at = random.below(file.len() as u64 + 1) as usize;
-            let byte = random.pick(&[0, 1, 2, 3, 4, 5, 6, 7]);
-            write(file, at, byte);
-        }
-        0 => write(file, place, random.below(8) as u8),
-        1 => write(file, place, random.number() as u8),
-        2 | 3 => {
-            let by = random.pick(&[1, 255, 8, 16]);
-            let old = file.get(place + 1).copied().unwrap_or(0);
-            write(file, place + 1, old.wrapping_add(by));
-        }
-        4 => write(file, place + 2, random.pick(&[1, 128, 255])),
         5 => file.truncate(random.below(file.len() as u64 + 1) as usize),
         6 => file.truncate(place),
         7 => {
@@ -274,25 +249,86 @@ fn damage(file: &mut Vec<u8>, random: &mut Random) {
             let at = random.pick(&fields);
             file.splice(at..at, again);
         }
+        12 => file.extend(field(1, &names()[random.below(3) as usize])),
+        way => write_byte(file, place, way, random),
+    }
+}
+
+/// A field that may be put anywhere, in one way or another.
+fn another_field(way: u64, random: &mut Random) -> Vec<u8> {
+    match way {
         10 => {
             let name = match random.below(3) {
                 0 => Vec::new(),
                 1 => vec![b'p'; LONGEST_NAME + 1],
                 _ => names()[0].clone(),
             };
-            file.splice(place..place, opening(&name, [4, 0, 0]));
+            opening(&name, [4, 0, 0])
         }
         11 => {
             let tag = random.pick(&[0, 2, 3, 3, 4, 4, 5, 6, 16, 255]);
             let length = random.pick(&[0, 1, 7, 8, 9, 10, 11, 23, 24, 25]);
             let value: Vec<u8> = (0..length).map(|_| random.number() as u8).collect();
-            file.splice(place..place, field(tag, &value));
+            field(tag, &value)
         }
-        12 => file.extend(field(1, &names()[random.below(3) as usize])),
+        15 => nested(DEEPEST + random.below(3) as usize, &path_rule(4, b"/")),
+        _ => faulty_group(random),
+    }
+}
+
+/// A group that has a faulty field in it or is faulty itself, mostly.
+fn faulty_group(random: &mut Random) -> Vec<u8> {
+    let inner = match random.below(6) {
+        0 => Vec::new(),
+        1 => opening(b"p", [4, 0, 0]),
+        2 => field(2, &[0; MASKS]),
+        3 => vec![3, 8],
+        4 => vec![3, 9, 0, 4, 0, 0, 0, 0, 0, 0, 0],
+        _ => field(random.pick(&[0, 6, 16]), &[]),
+    };
+    match random.chance(10) {
+        true => field(5, &[]),
+        false => group(random.pick(&[0, 1, 1, 1, 6, 6, 7]), &inner),
+    }
+}
+
+/// Writes a byte of the field at a place, or any byte, in one way or another.
+fn write_byte(file: &mut [u8], place: usize, way: u64, random: &mut Random) {
+    match way {
+        0 => write(file, place, random.below(8) as u8),
+        1 => write(file, place, random.number() as u8),
+        2 | 3 => {
+            let by = random.pick(&[1, 255, 8, 16]);
+            let old = file.get(place + 1).copied().unwrap_or(0);
+            write(file, place + 1, old.wrapping_add(by));
+        }
+        4 => write(file, place + 2, random.pick(&[1, 128, 255])),
+        16 => {
+            // Somewhere in a group, perhaps.
+            let at = random.below(file.len() as u64 + 1) as usize;
+            write(file, at, random.pick(&[0, 1, 2, 3, 4, 5, 6, 7]));
+        }
         _ => {
             let at = random.below(file.len() as u64 + 1) as usize;
             write(file, at, random.number() as u8);
         }
+    }
+}
+
+/// A field that is faulty itself, wherever a rule may stand.
+fn faulty_field(number: usize) -> Vec<u8> {
+    match number {
+        0 => field(3, &[0; 7]),
+        1 => field(4, &[0; 9]),
+        2 => field(5, &[]),
+        3 => group(7, &[]),
+        4 => group(6, &opening(b"r", [1, 0, 0])),
+        5 => nested(DEEPEST + 1, &[]),
+        6 => field(2, &[0; MASKS]),
+        7 => opening(&[], [4, 0, 0]),
+        8 => opening(&[b'n'; LONGEST_NAME + 1], [4, 0, 0]),
+        9 => [field(1, b"r"), field(2, &[0; MASKS - 1])].concat(),
+        _ => field(6, &[]),
     }
 }
 
@@ -356,6 +392,19 @@ fn bases() -> Vec<Vec<u8>> {
     ]
     .concat();
     let nearly = [opening(b"p", [1, 0, 0]), field(1, b"q")].concat();
+    let mut bases = grouped_bases();
+    bases.extend([
+        Vec::new(),
+        opening(b"p", [4, 0, 0]),
+        worked,
+        several,
+        nearly,
+    ]);
+    bases
+}
+
+/// Files with groups, as deep as may be and deeper.
+fn grouped_bases() -> Vec<Vec<u8>> {
     let inner = [path_rule(4, b"/cal"), group(6, &[]), port_rule(1, 80)].concat();
     let groups = [
         opening(b"p", [0xffff, 3, 3]),
@@ -376,16 +425,7 @@ fn bases() -> Vec<Vec<u8>> {
         nested(DEEPEST + 1, &path_rule(4, b"/")),
     ]
     .concat();
-    vec![
-        groups,
-        deepest,
-        too_deep,
-        Vec::new(),
-        opening(b"p", [4, 0, 0]),
-        worked,
-        several,
-        nearly,
-    ]
+    vec![groups, deepest, too_deep]
 }
 
 /// Every base as one file or the other, unchanged, with every byte changed, cut at every place, with every length
