@@ -20,7 +20,7 @@ use Rattle.log.specs.Changes.{Change, callOf, tagOf, valueOf, fieldBytes
 use Rattle.log.specs.Tree.{Tree, treeOf, withTree, changed}
 use Rattle.log.specs.Replay.{Applied, Faulty, onRead, replayed, replayOutcome, replayNamed}
 use Rattle.log.specs.Logged.{Log, written, append, alters, enters, loggedOutcome, loggedLog, LogCall, plain, logged, replay, outcomeLogged, afterLogged}
-use Rattle.log.specs.History.{Moment, moment, Step, ours, other, fresh, next, last, Leaves, Allowed, Unbroken, wroteWithin, keepIf, upTo}
+use Rattle.log.specs.History.{Moment, moment, Step, ours, other, fresh, next, last, Leaves, Allowed, Each, Unbroken, wroteWithin, keepIf, upTo}
 use Rattle.log.proofs.Pieces.{pieces-field, pieces-tail}
 use Rattle.log.proofs.Values.{read-back}
 use Rattle.log.proofs.Trees.{equal-same}
@@ -63,7 +63,7 @@ logged-tree N t c L q = logged-cases N t c L
     (sym (q .0) ∙ ap (λ (S : Tree). S .entries) left) (sym (q .1) ∙ ap (λ (S : Tree). S .names) left))))
     (λ o. ap treeOf o)
 
-leaves-tree : (N : Named) (c : LogCall) → Leaves N c → treeOf (afterLogged N c) ≡ treeOf N
+pub leaves-tree : (N : Named) (c : LogCall) → Leaves N c → treeOf (afterLogged N c) ≡ treeOf N
 unfolding Leaves outcomeLogged
 leaves-tree N (plain c u) q = quiet N c u .tree
 leaves-tree N (logged t c L) q = logged-tree N t c L q
@@ -213,7 +213,7 @@ module _ (M : Moment) where
     go-torn k j hs q e p = rw (take-append-le j (fieldOf c) (since (next M (ours t c)) hs) (omega arith)) (torn k M t c hs j e p q)
 
 comes : (hs : List Step) (M : Moment) (j k : ℕ) → k ≡ M .log .used + j → Unbroken M hs → Comes k M hs (take j (since M hs))
-unfolding since added Unbroken Allowed
+unfolding since added Each Allowed
 comes [] M j k q w = comes-none k M j
 comes (other c ∷ hs) M j k q w =
     quiet-comes k M (other c) hs _ (other-tree M c (w .0)) (other-log M c) (comes hs (next M (other c)) j k (q ∙ ap (λ (L : Log). L .used + j) (sym (other-log M c))) (w .1))

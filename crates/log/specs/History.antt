@@ -46,10 +46,14 @@ Allowed M (ours t c) = Unit {0}
 Allowed M (other c) = Leaves (M .tables) c
 Allowed M (fresh level) = freshenedNamed (M .tables) level .left ≡ M .tables
 
+-- each of the steps, at the moment when it is made
+unfoldable pub Each : (Moment → Step → Type 0) → Moment → List Step → Type 0
+Each P M [] = Unit {0}
+Each P M (h ∷ hs) = P M h × Each P (next M h) hs
+
 -- of the steps since the log was empty. "none after a cut": a cut ends the history
-unfoldable pub Unbroken : Moment → List Step → Type 0
-Unbroken M [] = Unit {0}
-Unbroken M (h ∷ hs) = Allowed M h × Unbroken (next M h) hs
+abbrev pub Unbroken : Moment → List Step → Type 0
+Unbroken M hs = Each Allowed M hs
 
 -- ---- the steps up to the last one whose field is whole in the first k bytes of the log
 unfoldable pub wroteWithin : ℕ → Moment → Step → Bool
