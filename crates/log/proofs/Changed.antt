@@ -1,11 +1,11 @@
 -- A change whose checks pass, thread and verdict apart, keeps sound tables sound. Assumes nothing.
-use mathlib.Core.Path.{_≡_, refl, sym}
+use mathlib.Core.Path.{_≡_, sym}
 use mathlib.Core.Bool.{true, false}
 use mathlib.Core.List.{List, [], _∷_}
 use Prim.Native.Nat.{ℕ}
 use lib.Dec.{eqb, ltb}
 use lib.ListN.{set}
-use borrow.Author.Tests.{eqb-true, eqb-false, eq-eqb, ltb-true, leb-false, not-false}
+use borrow.Author.Tests.{eqb-true, eqb-false, ltb-true, leb-false, not-false}
 use Rattle.laws.specs.Refusals.{Check, _⇒_, first}
 use Rattle.laws.proofs.Bools.{split, clash, both, or-l}
 use Rattle.laws.proofs.Refusals.{passed}
@@ -37,10 +37,7 @@ use Rattle.named.proofs.Kept.{right-moved}
 use Rattle.log.specs.Changes.{Change, create, remove, link, rename, exchange}
 use Rattle.log.specs.Tree.{Tree, treeOf, withTree, createPlace, movePlace, removePlace, exchangePlace, noEntry, noObject, treeChecks, changed}
 use Rattle.log.proofs.Trees.{set-own}
-
-same-of : (es : List ℕ) (s x : ℕ) → s ≡ x → sameObject es s x ≡ true
-unfolding sameObject
-same-of es s x e = eq-eqb (object es s) (object es x) (rw e refl)
+use Rattle.log.proofs.Idle.{same-of}
 
 module _ (N : Named) (h : namedSound N ≡ true) where
   abbrev T : Tables

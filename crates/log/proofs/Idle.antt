@@ -38,7 +38,7 @@ live-of : (es : List ℕ) (e k : ℕ) → kind es e ≡ k → (k ≡ 0 → ⊥) 
 unfolding live
 live-of es e k q n = rw q (not-of-false _ (ne-eqb k 0 n))
 
-same-of : (es : List ℕ) (s x : ℕ) → s ≡ x → sameObject es s x ≡ true
+pub same-of : (es : List ℕ) (s x : ℕ) → s ≡ x → sameObject es s x ≡ true
 unfolding sameObject
 same-of es s x e = eq-eqb (object es s) (object es x) (ap (object es) e)
 
