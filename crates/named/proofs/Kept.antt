@@ -99,7 +99,7 @@ module _ (N : Named) (h : namedSound N ≡ true) where
       names-of _ _ (names-cleared es ns _ tree old e (not-false _ (shape .1 .0)))
 
   -- the source and its new name, whatever else is asked
-  right-moved : (s d : ℕ) (n : List ℕ) → live es s ≡ true → (s ≡ 0 → ⊥) → Name n → namesSound (moved es s d (bearer es ns d n)) (renamedNames es ns s n (bearer es ns d n)) ≡ true
+  pub right-moved : (s d : ℕ) (n : List ℕ) → live es s ≡ true → (s ≡ 0 → ⊥) → Name n → namesSound (moved es s d (bearer es ns d n)) (renamedNames es ns s n (bearer es ns d n)) ≡ true
   unfolding moved dropped renamedNames dropName replacing
   right-moved s d n source nz ok = bearer-cases es ns d n
       (λ b t. rw b (names-of _ _ (names-moved es ns _ tree old s d n source nz ok t)))
