@@ -1,50 +1,39 @@
 -- Every call keeps sound tables with names sound, with any arguments, and so does every list of calls. Assumes nothing.
-use mathlib.Core.Path.{_≡_, refl, sym, ap, subst}
-use mathlib.Core.Bool.{true, false, not, false≢true}
+use mathlib.Core.Path.{_≡_, sym, ap, subst}
+use mathlib.Core.Bool.{true, false, not}
 use mathlib.Core.List.{List, [], _∷_}
 use Prim.Native.Nat.{ℕ, _<_}
 use lib.Dec.{eqb, ltb}
 use borrow.Author.Tests.{eqb-true, eqb-false, eq-eqb, ltb-true, not-true, not-false}
-use Rattle.laws.specs.Refusals.{Check, _⇒_, first}
+use Rattle.laws.specs.Refusals.{first}
 use Rattle.laws.proofs.Bools.{split, clash, both, or-l}
 use Rattle.laws.proofs.Tests.{first-passes}
 use Rattle.laws.proofs.Refusals.{passed}
 use Rattle.laws.proofs.Joined.{join-left, join-right}
-use Rattle.access.specs.Errno.{EIO}
 use Rattle.access.specs.Limits.{maxEntries}
 use Rattle.access.specs.Kinds.{lastKind}
 use Rattle.tables.specs.Tables.{Tables, counter, kind, parent, object, live}
-use Rattle.tables.specs.Outcome.{Outcome, answer}
 use Rattle.sound.specs.Sound.{sound}
-use Rattle.sound.specs.Call.{call}
 use Rattle.sound.proofs.Facts.{facts}
 use Rattle.sound_tree.proofs.Facts.{Tree}
 use Rattle.fs.specs.Move.{verdict}
-use Rattle.ruleset.specs.Create.{created, createDone, closed, closeDone}
-use Rattle.rule.specs.Rule.{pathAdded, portAdded, addDone}
-use Rattle.domain_restrict.specs.Restrict.{restrictCall, restrictDone, restricted}
-use Rattle.domain.specs.Threads.{cloned, cloneDone, privsSet, adminSet, markDone}
-use Rattle.domain.specs.Layer.{layerRead}
-use Rattle.domain_end.specs.End.{endCall, endDone}
-use Rattle.fs_access.specs.Access.{accessCall}
-use Rattle.net.specs.Port.{portCall}
-use Rattle.task.specs.Task.{taskCall}
-use Rattle.kept_end.proofs.End.{ended-entries}
 use Rattle.tree.specs.Entries.{freeEntry, unknownKind, replacing, sameObject}
 use Rattle.tree.specs.Create.{createShape, createVerdict, createLater, treeCreateChecks, treeCreated, removeShape, removeChecks}
 use Rattle.tree.specs.Link.{linkShape, linkVerdict, linkLater, linkChecks, linked}
 use Rattle.tree.specs.Rename.{dropped, moved}
 use Rattle.tree.specs.Exchange.{exchangeNames, exchangeShape, exchangeChecks, swapped}
-use Rattle.theorems.specs.Calls.{Call, create-ruleset, close-ruleset, add-path-rule, add-port-rule, restrict, layer-rules, clone, end-thread, set-no-new-privs, set-admin, access, port, task, outcomeOf, after}
+use Rattle.theorems.specs.Calls.{Call}
 use Rattle.theorems.proofs.Kept as settled
 use Rattle.names.specs.Names.{nameChecks, namesSound, bearer, dropName, taken}
 use Rattle.names.proofs.Facts.{Names, Name, names, names-of}
 use Rattle.names.proofs.Bearer.{bearer-cases}
 use Rattle.named.specs.Named.{Named, namedSound, NamedOutcome}
 use Rattle.named.specs.Tree.{createTarget, newName, createBefore, newNames, createNamedChecks, createNamed, removeNamed, linkTarget, linkBefore, linkNamedChecks, linkNamed, replacedBy, renameBefore, renameNamedChecks, renamedNames, renameNamed, swappedNames, exchangeNamed}
-use Rattle.named.specs.Calls.{leavesTree, NamedCall, lifted, create, remove, link, rename, exchange, lookup, turn, batch, outcomeNamed, afterNamed, allNamed}
+use Rattle.named.specs.Calls.{leavesTree, NamedCall, lifted, create, remove, link, rename, exchange, lookup, turn, batch, apply, outcomeNamed, afterNamed, allNamed}
 use Rattle.named.proofs.Made.{core-sound, names-sound, Way, wayNamed, way-cases, Made}
 use Rattle.named.proofs.Listed.{createWay, create-name, removeWay, linkWay, link-name, renameWay, rename-name, exchangeWay}
+use Rattle.named.proofs.Leaves.{leaves}
+use Rattle.named.proofs.Applied.{apply-made, apply-entries}
 use Rattle.named.proofs.Translate.{translate, follows, lifted-outcome, lookup-left, turn-left, batch-left}
 use Rattle.named.proofs.Renamed.{names-filled, names-cleared, names-moved, names-replaced, names-swapped}
 
@@ -53,31 +42,6 @@ abbrev Right : Named → Type 0
 Right N = namesSound (N .core .entries) (N .names) ≡ true
 
 -- ---- calls that leave the tree alone
-still : (T : Tables) (cs : List Check) (done : Outcome) → done .left .entries ≡ T .entries → call T cs done .left .entries ≡ T .entries
-unfolding call answer
-still T cs done q = split (eqb (first (not (sound T) ⇒ EIO ∷ cs)) 0) (λ z. rw z q) (λ z. rw z refl)
-
-pub leaves : (T : Tables) (c : Call) → leavesTree c ≡ true → (after T c) .entries ≡ T .entries
-unfolding outcomeOf created closed createDone closeDone pathAdded portAdded addDone restrictCall restrictDone restricted cloned cloneDone endCall endDone privsSet adminSet markDone layerRead accessCall portCall taskCall
-leaves T (create-ruleset bs flags) q = still T _ _ refl
-leaves T (close-ruleset r) q = still T _ _ refl
-leaves T (add-path-rule r e rights flags) q = still T _ _ refl
-leaves T (add-port-rule r p rights flags) q = still T _ _ refl
-leaves T (restrict t r flags) q = still T _ _ refl
-leaves T (layer-rules l) q = still T _ _ refl
-leaves T (clone t) q = still T _ _ refl
-leaves T (end-thread t) q = still T _ _ (ended-entries T t)
-leaves T (set-no-new-privs t) q = still T _ _ refl
-leaves T (set-admin t on) q = still T _ _ refl
-leaves T (access t e m) q = still T _ _ refl
-leaves T (port t p m) q = still T _ _ refl
-leaves T (task t u s) q = still T _ _ refl
-leaves T (Call.create t d k) q = absurd (false≢true q)
-leaves T (Call.remove t e) q = absurd (false≢true q)
-leaves T (Call.link t s d) q = absurd (false≢true q)
-leaves T (Call.rename t s d x) q = absurd (false≢true q)
-leaves T (Call.exchange t s d x) q = absurd (false≢true q)
-
 right-lifted : (N : Named) (c : Call) (q : leavesTree c ≡ true) → Right N → Right (afterNamed N (lifted c q))
 right-lifted N c q h = subst (λ (o : NamedOutcome). Right (o .left)) (sym (lifted-outcome N c q h)) (rw (leaves (N .core) c q) h)
 
@@ -180,6 +144,7 @@ names-kept N (exchange t s d x) h = right-way N (exchangeWay N t s d x) h (right
 names-kept N (lookup p) h = rw (lookup-left N p) (names-sound N h)
 names-kept N (turn Q) h = rw (turn-left N Q) (names-sound N h)
 names-kept N (batch rs ns xs) h = rw (batch-left N rs ns xs) (names-sound N h)
+names-kept N (apply stock site name) h = rw (apply-entries N stock site name, apply-made N stock site name .same-names) (names-sound N h)
 
 -- the six tables by document 01's theorem, through the translation
 pub kept : (N : Named) (c : NamedCall) → namedSound N ≡ true → namedSound (afterNamed N c) ≡ true

@@ -1,7 +1,7 @@
 -- Which layer a refusal names, on tables with names; and that on sound tables none is EIO. Assumes nothing.
 use mathlib.Core.Path.{_≡_, refl, sym, ap, subst, _∙_}
 use mathlib.Core.Bool.{Bool, true, false, not, _&&_}
-use mathlib.Core.List.{List, [], _∷_}
+use mathlib.Core.List.{List, [], _∷_, _++_}
 use mathlib.Core.Logic.{_⊎_, inl, inr}
 use Prim.Native.Nat.{ℕ, _*_}
 use native.Mathlib.Omega.{arith}
@@ -11,31 +11,35 @@ use Rattle.laws.specs.Tests.{allBelow}
 use Rattle.laws.specs.Refusals.{Check, _⇒_, first}
 use Rattle.laws.proofs.Bools.{split, either}
 use Rattle.laws.proofs.Refusals.{join-stop, join-go}
-use Rattle.access.specs.Errno.{ENOENT, EIO, EACCES, EXDEV, ENOTDIR, EINVAL, ENAMETOOLONG}
+use Rattle.access.specs.Errno.{ENOENT, EIO, E2BIG, EACCES, EXDEV, ENOTDIR, EINVAL, ENAMETOOLONG, EBADMSG}
 use Rattle.access.specs.declared.errno.Errno.{Errno}
 use Rattle.access.specs.declared.errno.Reply.{Reply}
 use Rattle.access.specs.declared.errno.Reply.the-variants.{Done, Refused, Denied}
 use Rattle.access.specs.declared.rights.Rights.{Rights}
-use Rattle.tables.specs.Tables.{isDir}
+use Rattle.tables.specs.Tables.{Tables, isDir}
 use Rattle.tables.specs.Outcome.{Outcome, errorOf}
 use Rattle.sound.specs.Sound.{sound}
 use Rattle.tree.specs.declared.Replaced.{Replaced}
 use Rattle.tree.specs.declared.Replaced.the-variants.{None, Entry}
 use Rattle.theorems.specs.Calls.{Call, outcomeOf, reply}
+use Rattle.theorems.specs.Named.{verdictOn, Youngest, here, older, ByVerdict}
 use Rattle.theorems.proofs.Named as settled
 use Rattle.names.specs.Names.{maxName, namesSound}
 use Rattle.names.specs.Paths.{components, closing, refuse, arrived, stepTo, walk, pathChecks, found}
 use Rattle.queue.specs.Queue.{Queue, Turned, slots, servedReply}
 use Rattle.queue.proofs.Sound.{turn-cases}
-use Rattle.named.specs.Named.{Named, namedSound, NamedOutcome}
+use Rattle.named.specs.Named.{Named, namedSound, NamedOutcome, namedCall}
 use Rattle.named.specs.Tree.{createNamedChecks, createNamed, removeNamed, linkNamedChecks, linkNamed, renameNamedChecks, renameNamed, exchangeNamed}
 use Rattle.named.specs.Queue.{answerOf, turnNamed}
 use Rattle.named.specs.Batch.{requestWidth, askedCell, knownSort, batchAnswerWidth, answersTo, requestCount, batchChecks, Batched, batched, batchOf, batchNamed}
-use Rattle.named.specs.Calls.{leavesTree, NamedCall, lifted, create, remove, link, rename, exchange, lookup, turn, batch, outcomeNamed, replyNamed, onCore}
+use Rattle.named.specs.Policy.{lookupNamed, onNamed, foundChecks, applyNamed}
+use Rattle.named.specs.Calls.{leavesTree, NamedCall, lifted, create, remove, link, rename, exchange, lookup, turn, batch, apply, outcomeNamed, replyNamed, onCore}
 use Rattle.named.specs.Layer.{faulty, refusalsNamed, PassedOn, LayerNamed}
-use Rattle.named.proofs.Made.{lift-unnamed, omits, omits-first, named-cases, NoLayer, way-number, way-told}
+use Rattle.named.proofs.Made.{lift-unnamed, lift-goes, omits, omits-first, named-cases, NoLayer, way-number, way-told}
 use Rattle.named.proofs.Listed.{createWay, removeWay, linkWay, renameWay, exchangeWay}
-use Rattle.named.proofs.Translate.{OfTree, Seen, is-lifted, of-tree, is-lookup, is-turn, is-batch, seen, lifted-is, lifted-outcome}
+use Rattle.named.proofs.Leaves.{OnRulesets, creates, closes, adds-path, adds-port}
+use Rattle.named.proofs.Applied.{found-cases, by-calls}
+use Rattle.named.proofs.Translate.{OfTree, Seen, is-lifted, of-tree, is-lookup, is-turn, is-batch, is-apply, seen, lifted-is, lifted-outcome}
 
 -- ---- a batch is refused with EINVAL, or it is done
 einval-only : (rs xs : List ℕ) → (first (batchChecks rs xs) ≡ 0) ⊎ (first (batchChecks rs xs) ≡ EINVAL)
@@ -81,6 +85,49 @@ no-layer-of e a x = record { error = record { 0 = e }; is-refused = refl; not-ac
 abbrev replyOf : NamedOutcome → Reply
 replyOf o = o .reply
 
+-- a reply of a call that asks for no verdict
+abbrev Looked : Reply → Type 0
+Looked r = ((n : ℕ) × (r ≡ Done n)) ⊎ NoLayer r
+
+looked : (N : Named) (p : List ℕ) → Looked (lookupNamed N p .reply)
+unfolding pathChecks omits
+looked N p = named-cases N (pathChecks p) _ (λ o. Looked (o .reply))
+    (λ h. inr (no-layer-of EIO (λ z. omega arith) (λ z. omega arith)))
+    (λ h z. inr (no-layer-of (first (pathChecks p)) (omits-first EACCES (pathChecks p) refl (λ z. omega arith)) (omits-first EXDEV (pathChecks p) refl (λ z. omega arith))))
+    (λ h z. found-replies Looked (λ e. inl (e, refl))
+    (inr (no-layer-of ENOTDIR (λ z. omega arith) (λ z. omega arith))) (inr (no-layer-of ENAMETOOLONG (λ z. omega arith) (λ z. omega arith))) (inr (no-layer-of ENOENT (λ z. omega arith) (λ z. omega arith)))
+    (N .core .entries) (N .names) p)
+
+-- ---- the replies of an application
+youngest-none : {f : ℕ → ℕ} {D : List ℕ} {l s : ℕ} → ((k : ℕ) → f k ≡ 0) → Youngest f D l s → ⊥
+youngest-none z (here n) = n (z _)
+youngest-none z (older q y) = youngest-none z y
+
+never-denied : {c : Call} → OnRulesets c → (T : Tables) (e : Errno) (l : ℕ) (s : Rights) → ByVerdict T c e l s → ⊥
+unfolding verdictOn
+never-denied (creates bs flags) T e l s j = either (j .named) (λ y. youngest-none (λ k. refl) (y .1)) (λ y. youngest-none (λ k. refl) (y .1))
+never-denied (closes r) T e l s j = either (j .named) (λ y. youngest-none (λ k. refl) (y .1)) (λ y. youngest-none (λ k. refl) (y .1))
+never-denied (adds-path r x rights flags) T e l s j = either (j .named) (λ y. youngest-none (λ k. refl) (y .1)) (λ y. youngest-none (λ k. refl) (y .1))
+never-denied (adds-port r p rights flags) T e l s j = either (j .named) (λ y. youngest-none (λ k. refl) (y .1)) (λ y. youngest-none (λ k. refl) (y .1))
+
+core-told : {c : Call} → OnRulesets c → (T : Tables) (r : Reply) → reply T c ≡ r → Looked r
+core-told v T (Done n) q = inl (n, refl)
+core-told {c} v T (Refused e) q = let o = settled.layer-named .others T c e q in inr (record { error = e; is-refused = refl; not-acces = o .0; not-xdev = o .1 })
+core-told {c} v T (Denied e l s) q = absurd (never-denied v T e l s (settled.layer-named .denied T c e l s q))
+
+call-told : (N : Named) {c : Call} → OnRulesets c → Looked (onNamed N c .reply)
+call-told N {c} v = split (namesSound (N .core .entries) (N .names))
+    (λ h. subst (λ (o : NamedOutcome). Looked (o .reply)) (lift-goes N (outcomeOf (N .core) c) h) (core-told v (N .core) (reply (N .core) c) refl))
+    (λ h. subst (λ (o : NamedOutcome). Looked (o .reply)) (lift-unnamed N (outcomeOf (N .core) c) h) (inr (no-layer-of EIO (λ z. omega arith) (λ z. omega arith))))
+
+found-no-layer : (stock site name : List ℕ) → (first (foundChecks stock site name) ≡ 0 → ⊥) → NoLayer (refuse (first (foundChecks stock site name)))
+unfolding first
+found-no-layer = found-cases (λ cs. (first cs ≡ 0 → ⊥) → NoLayer (refuse (first cs)))
+    (λ z. absurd (z refl))
+    (λ z. no-layer-of E2BIG (λ q. omega arith) (λ q. omega arith))
+    (λ z. no-layer-of EBADMSG (λ q. omega arith) (λ q. omega arith))
+    (λ z. no-layer-of ENOENT (λ q. omega arith) (λ q. omega arith))
+
 module _ (N : Named) where
   told-lifted : (b : Call) (q : leavesTree b ≡ true) → Told N (lifted b q)
   unfolding onCore
@@ -93,19 +140,6 @@ module _ (N : Named) where
       (λ s. passes b (O .comes-to) (ap replyOf (O .is-named) ∙ s ∙ ap (λ (o : Outcome). o .reply) (sym (O .is-core))))
       (λ P. no-layer (subst NoLayer (ap replyOf (sym (O .is-named))) P))
 
-  -- a reply of a lookup, a turn or a batch
-  abbrev Looked : Reply → Type 0
-  Looked r = ((n : ℕ) × (r ≡ Done n)) ⊎ NoLayer r
-
-  looked : (p : List ℕ) → Looked (replyNamed N (lookup p))
-  unfolding outcomeNamed pathChecks omits
-  looked p = named-cases N (pathChecks p) _ (λ o. Looked (o .reply))
-      (λ h. inr (no-layer-of EIO (λ z. omega arith) (λ z. omega arith)))
-      (λ h z. inr (no-layer-of (first (pathChecks p)) (omits-first EACCES (pathChecks p) refl (λ z. omega arith)) (omits-first EXDEV (pathChecks p) refl (λ z. omega arith))))
-      (λ h z. found-replies Looked (λ e. inl (e, refl))
-      (inr (no-layer-of ENOTDIR (λ z. omega arith) (λ z. omega arith))) (inr (no-layer-of ENAMETOOLONG (λ z. omega arith) (λ z. omega arith))) (inr (no-layer-of ENOENT (λ z. omega arith) (λ z. omega arith)))
-      (N .core .entries) (N .names) p)
-
   served : (Q : Queue) → Looked (replyNamed N (turn Q))
   unfolding outcomeNamed turnNamed servedReply
   served Q = turn-cases (answerOf N) Q (λ (p : Turned). Looked (servedReply (p .said)))
@@ -116,14 +150,27 @@ module _ (N : Named) where
   batch-told rs ns xs = batch-cases N rs ns xs (λ (p : Batched). Looked (p .reply))
       (λ z. inl (0, refl)) (λ z. inr (no-layer-of EINVAL (λ z. omega arith) (λ z. omega arith)))
 
+  apply-told : (stock site name : List ℕ) → Looked (replyNamed N (apply stock site name))
+  unfolding outcomeNamed applyNamed
+  apply-told stock site name = named-cases N (foundChecks stock site name) _ (λ o. Looked (o .reply))
+      (λ h. inr (no-layer-of EIO (λ z. omega arith) (λ z. omega arith)))
+      (λ h z. inr (found-no-layer stock site name z))
+      (λ h z. by-calls (λ M. Unit {0}) Looked (λ M c v p. (tt, call-told M v)) (λ M p q. looked M p) (λ n. inl (n, refl)) N _ tt .1)
+
   told-seen : {c : NamedCall} → Seen N c → Told N c
+  unfolding outcomeNamed
   told-seen (is-lifted b q) = told-lifted b q
   told-seen {c} (of-tree b O) = told-tree c b O
-  told-seen (is-lookup p) = either (looked p) (λ d. succeeds (d .0) (d .1)) no-layer
+  told-seen (is-lookup p) = either (looked N p) (λ d. succeeds (d .0) (d .1)) no-layer
   told-seen (is-turn Q) = either (served Q) (λ d. succeeds (d .0) (d .1)) no-layer
   told-seen (is-batch rs ns xs) = either (batch-told rs ns xs) (λ d. succeeds (d .0) (d .1)) no-layer
+  told-seen (is-apply stock site name) = either (apply-told stock site name) (λ d. succeeds (d .0) (d .1)) no-layer
 
 -- ---- the number is that of the first refusal
+found-past : (stock site name : List ℕ) (ys : List Check) → first (foundChecks stock site name) ≡ 0 → first ys ≡ first (foundChecks stock site name ++ ys)
+unfolding first
+found-past = found-cases (λ cs. (ys : List Check) → first cs ≡ 0 → first ys ≡ first (cs ++ ys)) (λ ys z. refl) (λ ys z. omega arith) (λ ys z. omega arith) (λ ys z. omega arith)
+
 module _ (N : Named) where
   abbrev full : NamedCall → ℕ
   full c = first (faulty N c ⇒ EIO ∷ refusalsNamed N c)
@@ -142,15 +189,24 @@ module _ (N : Named) where
       and-false true = refl
       and-false false = refl
 
-  number-lookup : (p : List ℕ) → errorOf (replyNamed N (lookup p)) ≡ full (lookup p)
-  unfolding outcomeNamed first faulty refusalsNamed pathChecks
-  number-lookup p =
-      let es = N .core .entries in
-      let last : List Check = true ⇒ errorOf (found es (N .names) p) ∷ [] in
-      named-cases N (pathChecks p) _ (λ o. errorOf (o .reply) ≡ full (lookup p))
+  -- of a call with checks of its own, and a number of what it does past them
+  number-then : (cs : List Check) (done : NamedOutcome) → ((ys : List Check) → first cs ≡ 0 → first ys ≡ first (cs ++ ys))
+      → errorOf (namedCall N cs done .reply) ≡ first (not (namedSound N) ⇒ EIO ∷ cs ++ (true ⇒ errorOf (done .reply) ∷ []))
+  unfolding first
+  number-then cs done past =
+      let last : List Check = true ⇒ errorOf (done .reply) ∷ [] in
+      named-cases N cs done (λ o. errorOf (o .reply) ≡ first (not (namedSound N) ⇒ EIO ∷ cs ++ last))
       (λ h. rw h refl)
-      (λ h z. rw h (join-stop (pathChecks p) last refl z))
-      (λ h z. rw h (join-go (pathChecks p) last tt refl z refl))
+      (λ h z. rw h (join-stop cs last refl z))
+      (λ h z. rw h (past last z))
+
+  number-lookup : (p : List ℕ) → errorOf (replyNamed N (lookup p)) ≡ full (lookup p)
+  unfolding outcomeNamed faulty refusalsNamed pathChecks
+  number-lookup p = number-then (pathChecks p) _ (λ ys z. join-go (pathChecks p) ys tt refl z refl)
+
+  number-apply : (stock site name : List ℕ) → errorOf (replyNamed N (apply stock site name)) ≡ full (apply stock site name)
+  unfolding outcomeNamed applyNamed faulty refusalsNamed
+  number-apply stock site name = number-then (foundChecks stock site name) _ (found-past stock site name)
 
   number-turn : (Q : Queue) → errorOf (replyNamed N (turn Q)) ≡ full (turn Q)
   unfolding outcomeNamed turnNamed servedReply first faulty refusalsNamed
@@ -173,6 +229,7 @@ module _ (N : Named) where
   number (lookup p) = number-lookup p
   number (turn Q) = number-turn Q
   number (batch rs ns xs) = number-batch rs ns xs
+  number (apply stock site name) = number-apply stock site name
 
 pub layer-named : LayerNamed
 layer-named = record {

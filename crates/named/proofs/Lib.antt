@@ -3,8 +3,10 @@ pub mod Orders
 pub mod Replies
 pub mod Made
 pub mod Listed
-pub mod Translate
 pub mod Lists
+pub mod Leaves
+pub mod Applied
+pub mod Translate
 pub mod Demand3
 pub mod Renamed
 pub mod Kept

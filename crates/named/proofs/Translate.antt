@@ -1,6 +1,6 @@
 -- Each call with names, on the tables that it meets, as calls of document 01 with the same effect on the six tables. Assumes nothing.
 use mathlib.Core.Path.{_≡_, refl, sym, ap, _∙_}
-use mathlib.Core.Bool.{Bool, true, false, cond, _&&_}
+use mathlib.Core.Bool.{true, false, cond}
 use mathlib.Core.List.{List, [], _∷_}
 use Prim.Native.Nat.{ℕ}
 use Rattle.laws.proofs.Bools.{split}
@@ -21,10 +21,12 @@ use Rattle.named.specs.Named.{Named, withNames, NamedOutcome, namedOutco
 use Rattle.named.specs.Tree.{createNamedChecks, createNamed, removeNamed, linkNamedChecks, linkNamed, renameNamedChecks, renameNamed, exchangeNamed}
 use Rattle.named.specs.Queue.{turnNamed}
 use Rattle.named.specs.Batch.{batchNamed}
-use Rattle.named.specs.Calls.{leavesTree, NamedCall, lifted, create, remove, link, rename, exchange, lookup, turn, batch, outcomeNamed, afterNamed, replyNamed, callerNamed, wouldFreeNamed, freesNamed, wouldEndNamed, endsNamed, onCore}
+use Rattle.named.specs.Calls.{leavesTree, NamedCall, lifted, create, remove, link, rename, exchange, lookup, turn, batch, apply, outcomeNamed, afterNamed, replyNamed, callerNamed, wouldFreeNamed, freesNamed, wouldEndNamed, endsNamed, onCore}
 use Rattle.named.specs.Claim.{ChangesTree}
 use Rattle.named.proofs.Made.{core-sound, lift-unnamed, lift-goes, named-cases, Way, wayNamed, wayCore, way-goes, core-goes, made, refused-left}
 use Rattle.named.proofs.Listed.{createWay, removeWay, linkWay, renameWay, exchangeWay}
+use Rattle.named.proofs.Leaves.{and-none, AllOnRulesets, none, all-within, all-kept, all-live}
+use Rattle.named.proofs.Applied.{apply-made}
 
 -- ---- a call of the tree c, and document 01's call b that it comes to
 pub record OfTree (N : Named) (c : NamedCall) (b : Call) : Type 0 where
@@ -42,6 +44,7 @@ pub data Seen (N : Named) : NamedCall → Type 0 where
   is-lookup : (p : List ℕ) → Seen N (lookup p)
   is-turn : (Q : Queue) → Seen N (turn Q)
   is-batch : (rs ns xs : List ℕ) → Seen N (batch rs ns xs)
+  is-apply : (stock site name : List ℕ) → Seen N (apply stock site name)
 
 pub seen : (N : Named) (c : NamedCall) → Seen N c
 unfolding outcomeNamed outcomeOf onCore callerNamed caller wouldFreeNamed wouldFree wouldEnd
@@ -61,14 +64,16 @@ seen N (exchange t s d x) = of-tree (Call.exchange t s d x)
 seen N (lookup p) = is-lookup p
 seen N (turn Q) = is-turn Q
 seen N (batch rs ns xs) = is-batch rs ns xs
+seen N (apply stock site name) = is-apply stock site name
 
--- ---- the translation: a lifted call where the names are sound, a call of the tree where it is not refused
+-- ---- the translation: a lifted call where the names are sound, a call of the tree where it is not refused, the calls that an application makes
 unfoldable pub turned : (N : Named) (c : NamedCall) → Seen N c → List Call
 turned N c (is-lifted b q) = cond (namesSound (N .core .entries) (N .names)) (b ∷ []) []
 turned N c (of-tree b O) = cond (isDone (replyNamed N c)) (b ∷ []) []
 turned N c (is-lookup p) = []
 turned N c (is-turn Q) = []
 turned N c (is-batch rs ns xs) = []
+turned N c (is-apply stock site name) = apply-made N stock site name .calls
 
 unfoldable pub translate : Named → NamedCall → List Call
 translate N c = turned N c (seen N c)
@@ -83,14 +88,14 @@ pub record Follows (N : Named) (c : NamedCall) (bs : List Call) : Type 0 where
   pub kept : (e : ℕ) → freesNamed N c e ≡ false → settled.Kept (N .core) bs e
   pub lives : (t : ℕ) → endsNamed N c t ≡ false → settled.Lives (N .core) bs t
 
-and-none : (a x : Bool) → x ≡ false → (a && x) ≡ false
-and-none true x h = h
-and-none false x h = refl
-
 module _ (N : Named) (c : NamedCall) where
+  -- calls on rulesets, which leave the tree alone
+  follows-list : {bs : List Call} → AllOnRulesets bs → (afterNamed N c) .core ≡ afterAll (N .core) bs → Follows N c bs
+  follows-list all q = record { same = q; whose = λ D w. all-within all D (N .core); kept = λ e h. all-kept all (N .core) e; lives = λ t h. all-live all (N .core) t }
+
   follows-none : (afterNamed N c) .core ≡ N .core → Follows N c []
-  unfolding afterAll settled.Within settled.Kept settled.Lives
-  follows-none q = record { same = q; whose = λ D w. tt; kept = λ e h. tt; lives = λ t h. tt }
+  unfolding afterAll
+  follows-none q = follows-list none q
 
   follows-one : (b : Call) → (afterNamed N c) .core ≡ after (N .core) b → callerNamed c ≡ caller b
       → ((e : ℕ) → freesNamed N c e ≡ false → frees (N .core) b e ≡ false) → ((t : ℕ) → endsNamed N c t ≡ false → ends (N .core) b t ≡ false) → Follows N c (b ∷ [])
@@ -148,6 +153,10 @@ pub batch-left : (N : Named) (rs ns xs : List ℕ) → afterNamed N (batch rs ns
 unfolding outcomeNamed batchNamed
 batch-left N rs ns xs = refl
 
+follows-apply : (N : Named) (stock site name : List ℕ) → Follows N (apply stock site name) (apply-made N stock site name .calls)
+unfolding outcomeNamed
+follows-apply N stock site name = let B = apply-made N stock site name in follows-list N (apply stock site name) (B .all) (B .same-core)
+
 -- ---- every call is followed by its translation
 follows-seen : {N : Named} {c : NamedCall} (v : Seen N c) → Follows N c (turned N c v)
 unfolding turned
@@ -156,6 +165,7 @@ follows-seen {N} {c} (of-tree b O) = follows-tree N c b O
 follows-seen {N} (is-lookup p) = follows-none N (lookup p) (ap (λ (M : Named). M .core) (lookup-left N p))
 follows-seen {N} (is-turn Q) = follows-none N (turn Q) (ap (λ (M : Named). M .core) (turn-left N Q))
 follows-seen {N} (is-batch rs ns xs) = follows-none N (batch rs ns xs) (ap (λ (M : Named). M .core) (batch-left N rs ns xs))
+follows-seen {N} (is-apply stock site name) = follows-apply N stock site name
 
 pub follows : (N : Named) (c : NamedCall) → Follows N c (translate N c)
 unfolding translate

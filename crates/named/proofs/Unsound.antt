@@ -1,11 +1,11 @@
 -- On sound tables no call answers EIO but a turn of a queue that is not sound. Assumes nothing.
-use mathlib.Core.Path.{_≡_, refl, sym, ap, _∙_}
+use mathlib.Core.Path.{_≡_, refl, sym, ap, subst, _∙_}
 use mathlib.Core.Bool.{true, false, not}
-use mathlib.Core.List.{List}
+use mathlib.Core.List.{List, _++_}
 use Prim.Native.Nat.{ℕ}
 use native.Mathlib.Omega.{arith}
-use borrow.Author.Tests.{ne-eqb, not-true}
-use Rattle.laws.specs.Refusals.{first}
+use borrow.Author.Tests.{ne-eqb, not-true, not-false}
+use Rattle.laws.specs.Refusals.{Check, first}
 use Rattle.laws.proofs.Bools.{split, clash}
 use Rattle.access.specs.Errno.{EIO}
 use Rattle.tables.specs.Tables.{Tables}
@@ -24,17 +24,24 @@ use Rattle.tree.specs.Create.{createShape, createVerdict, createLater, treeCrea
 use Rattle.tree.specs.Link.{linkShape, linkVerdict, linkLater, linkChecks}
 use Rattle.tree.specs.Rename.{renameNames, renameShape, renameVerdict, renameLater, renameChecks}
 use Rattle.tree.specs.Exchange.{exchangeNames, exchangeShape, exchangeVerdict, exchangeChecks}
-use Rattle.theorems.specs.Calls.{Call, create-ruleset, close-ruleset, add-path-rule, add-port-rule, restrict, layer-rules, clone, end-thread, set-no-new-privs, set-admin, access, port, task}
+use Rattle.theorems.specs.Calls.{Call, create-ruleset, close-ruleset, add-path-rule, add-port-rule, restrict, layer-rules, clone, end-thread, set-no-new-privs, set-admin, access, port, task, outcomeOf}
 use Rattle.theorems.specs.Named.{refusalsOf}
+use Rattle.theorems.proofs.Named as settled
 use Rattle.names.specs.Names.{nameChecks}
 use Rattle.names.specs.Paths.{pathChecks, found}
+use Rattle.policy.specs.Find.{partOf}
+use Rattle.policy.specs.Find as files
 use Rattle.queue.specs.Queue.{Queue, queueSound}
-use Rattle.named.specs.Named.{Named, namedSound}
+use Rattle.named.specs.Named.{Named, namedSound, NamedOutcome}
 use Rattle.named.specs.Tree.{createTarget, newName, createBefore, createNamedChecks, linkTarget, linkBefore, linkNamedChecks, renameBefore, renameNamedChecks}
 use Rattle.named.specs.Batch.{batchChecks}
-use Rattle.named.specs.Calls.{NamedCall, lifted, create, remove, link, rename, exchange, lookup, turn, batch, replyNamed}
+use Rattle.named.specs.Policy.{lookupNamed, onNamed, applied, foundChecks}
+use Rattle.named.specs.Calls.{NamedCall, lifted, create, remove, link, rename, exchange, lookup, turn, batch, apply, outcomeNamed, replyNamed}
 use Rattle.named.specs.Layer.{faulty, refusalsNamed}
-use Rattle.named.proofs.Made.{omits, omits-first}
+use Rattle.named.proofs.Made.{core-sound, names-sound, lift-goes, omits, omits-first, named-cases}
+use Rattle.named.proofs.Leaves.{OnRulesets, leaving}
+use Rattle.named.proofs.Applied.{found-cases, by-calls}
+use Rattle.named.proofs.Kept.{kept}
 use Rattle.named.proofs.Layer.{found-replies, layer-named}
 
 -- EIO is not among the refusals of a call
@@ -65,24 +72,51 @@ settled-omits T (Call.exchange t s d x) = refl
 found-not : (es ns p : List ℕ) → errorOf (found es ns p) ≡ EIO → ⊥
 found-not = found-replies (λ r. errorOf r ≡ EIO → ⊥) (λ e z. omega arith) (λ z. omega arith) (λ z. omega arith) (λ z. omega arith)
 
-named-omits : (N : Named) (c : NamedCall) → omits EIO (refusalsNamed N c) ≡ true
-unfolding omits refusalsOf refusalsNamed createNamedChecks createBefore createTarget newName nameChecks createVerdict createLater
+-- nor is it of an application on sound tables, since each of its calls meets sound ones
+call-not : (N : Named) {c : Call} → OnRulesets c → namedSound N ≡ true → errorOf (onNamed N c .reply) ≡ EIO → ⊥
+unfolding first
+call-not N {c} v h = subst (λ (o : NamedOutcome). errorOf (o .reply) ≡ EIO → ⊥) (lift-goes N (outcomeOf (N .core) c) (names-sound N h))
+    (λ z. omits-first EIO (refusalsOf (N .core) c) (settled-omits (N .core) c) (λ q. omega arith) (rw (core-sound N h) at (sym (settled.layer-named .number (N .core) c) ∙ z)))
+
+lookup-not : (N : Named) (p : List ℕ) → namedSound N ≡ true → errorOf (lookupNamed N p .reply) ≡ EIO → ⊥
+unfolding pathChecks omits
+lookup-not N p h = named-cases N (pathChecks p) _ (λ o. errorOf (o .reply) ≡ EIO → ⊥)
+    (λ u z. clash (namedSound N) h u)
+    (λ s q. omits-first EIO (pathChecks p) refl (λ z. omega arith))
+    (λ s q. found-not (N .core .entries) (N .names) p)
+
+applied-not : (N : Named) (s : List ℕ) → namedSound N ≡ true → errorOf (applied N s .reply) ≡ EIO → ⊥
+unfolding outcomeNamed
+applied-not N s h = by-calls (λ M. namedSound M ≡ true) (λ r. errorOf r ≡ EIO → ⊥) (λ M c v k. (kept M (lifted c (leaving v)) k, call-not M v k)) lookup-not (λ n z. omega arith) N s h .1
+
+found-omits : (stock site name : List ℕ) (ys : List Check) → omits EIO ys ≡ true → omits EIO (foundChecks stock site name ++ ys) ≡ true
+unfolding omits
+found-omits = found-cases (λ cs. (ys : List Check) → omits EIO ys ≡ true → omits EIO (cs ++ ys) ≡ true) (λ ys h. h) (λ ys h. h) (λ ys h. h) (λ ys h. h)
+
+apply-omits : (N : Named) (stock site name : List ℕ) → namedSound N ≡ true → omits EIO (refusalsNamed N (apply stock site name)) ≡ true
+unfolding omits refusalsNamed
+apply-omits N stock site name h = found-omits stock site name _
+    (let s = partOf stock site (files.found stock site name) in rw (ne-eqb (errorOf (applied N s .reply)) EIO (applied-not N s h)) refl)
+
+named-omits : (N : Named) (c : NamedCall) → faulty N c ≡ false → omits EIO (refusalsNamed N c) ≡ true
+unfolding faulty omits refusalsOf refusalsNamed createNamedChecks createBefore createTarget newName nameChecks createVerdict createLater
     linkNamedChecks linkBefore linkTarget linkVerdict linkLater renameNamedChecks renameBefore renameVerdict renameLater verdict pathChecks batchChecks
-named-omits N (lifted c q) = settled-omits (N .core) c
-named-omits N (create t d k n) = refl
-named-omits N (remove t e) = settled-omits (N .core) (Call.remove t e)
-named-omits N (link t s d n) = refl
-named-omits N (rename t s d n) = refl
-named-omits N (exchange t s d x) = settled-omits (N .core) (Call.exchange t s d x)
-named-omits N (lookup p) = rw (ne-eqb (errorOf (found (N .core .entries) (N .names) p)) EIO (found-not (N .core .entries) (N .names) p)) refl
-named-omits N (turn Q) = refl
-named-omits N (batch rs ns xs) = refl
+named-omits N (lifted c q) f = settled-omits (N .core) c
+named-omits N (create t d k n) f = refl
+named-omits N (remove t e) f = settled-omits (N .core) (Call.remove t e)
+named-omits N (link t s d n) f = refl
+named-omits N (rename t s d n) f = refl
+named-omits N (exchange t s d x) f = settled-omits (N .core) (Call.exchange t s d x)
+named-omits N (lookup p) f = rw (ne-eqb (errorOf (found (N .core .entries) (N .names) p)) EIO (found-not (N .core .entries) (N .names) p)) refl
+named-omits N (turn Q) f = refl
+named-omits N (batch rs ns xs) f = refl
+named-omits N (apply stock site name) f = apply-omits N stock site name (not-false _ f)
 
 -- an EIO is of what is faulty
 eio-faulty : (N : Named) (c : NamedCall) → errorOf (replyNamed N c) ≡ EIO → faulty N c ≡ true
 unfolding first
 eio-faulty N c z = split (faulty N c) (λ q. q)
-    (λ q. absurd (omits-first EIO (refusalsNamed N c) (named-omits N c) (λ z. omega arith) (rw q at (sym (layer-named .number N c) ∙ z))))
+    (λ q. absurd (omits-first EIO (refusalsNamed N c) (named-omits N c q) (λ z. omega arith) (rw q at (sym (layer-named .number N c) ∙ z))))
 
 pub not-unsound : (N : Named) (c : NamedCall) → namedSound N ≡ true → errorOf (replyNamed N c) ≡ EIO → (Q : Queue) × (c ≡ turn Q) × (queueSound Q ≡ false)
 unfolding faulty
@@ -100,4 +134,5 @@ not-unsound N c h z = of-turn c (eio-faulty N c z)
     of-turn (exchange t s d x) q = sound-tables q
     of-turn (lookup p) q = sound-tables q
     of-turn (batch rs ns xs) q = clash false q refl
+    of-turn (apply stock site name) q = sound-tables q
     of-turn (turn Q) q = (Q, refl, not-true (queueSound Q) q)

@@ -7,12 +7,12 @@ use lib.Dec.{eqb}
 use Rattle.access.specs.declared.errno.Reply.{Reply}
 use Rattle.tree.specs.Entries.{replacing, sameObject}
 use Rattle.theorems.specs.Calls.{Call, create-ruleset, close-ruleset, add-path-rule, add-port-rule, restrict, layer-rules, clone, end-thread, set-no-new-privs, set-admin, access, port, task, outcomeOf, caller, isDone, wouldFree, wouldEnd}
-use Rattle.names.specs.Paths.{pathChecks, found}
 use Rattle.queue.specs.Queue.{Queue}
-use Rattle.named.specs.Named.{Named, NamedOutcome, namedOutcome, namedCall, lift}
+use Rattle.named.specs.Named.{Named, NamedOutcome, lift}
 use Rattle.named.specs.Tree.{createNamed, removeNamed, linkNamed, replacedBy, renameNamed, exchangeNamed}
 use Rattle.named.specs.Queue.{turnNamed}
 use Rattle.named.specs.Batch.{batchNamed}
+use Rattle.named.specs.Policy.{lookupNamed, applyNamed}
 
 -- the calls of document 01 that neither read nor write names: all but those that change the tree
 abbrev pub leavesTree : Call → Bool
@@ -54,6 +54,8 @@ pub data NamedCall : Type 0 where
   turn : Queue → NamedCall
   -- requests, their names, answers
   batch : List ℕ → List ℕ → List ℕ → NamedCall
+  -- stock, site, name
+  apply : List ℕ → List ℕ → List ℕ → NamedCall
 
 -- what a call answers and leaves
 unfoldable pub outcomeNamed : Named → NamedCall → NamedOutcome
@@ -63,9 +65,10 @@ outcomeNamed N (remove t e) = removeNamed N t e
 outcomeNamed N (link t s d n) = linkNamed N t s d n
 outcomeNamed N (rename t s d n) = renameNamed N t s d n
 outcomeNamed N (exchange t s d x) = exchangeNamed N t s d x
-outcomeNamed N (lookup p) = namedCall N (pathChecks p) (namedOutcome (found (N .core .entries) (N .names) p) N)
+outcomeNamed N (lookup p) = lookupNamed N p
 outcomeNamed N (turn Q) = turnNamed N Q
 outcomeNamed N (batch rs ns xs) = batchNamed N rs ns xs
+outcomeNamed N (apply stock site name) = applyNamed N stock site name
 
 abbrev pub afterNamed : Named → NamedCall → Named
 afterNamed N c = outcomeNamed N c .left
@@ -89,6 +92,7 @@ callerNamed (exchange t s d x) = t
 callerNamed (lookup p) = 0
 callerNamed (turn Q) = 0
 callerNamed (batch rs ns xs) = 0
+callerNamed (apply stock site name) = 0
 
 -- the entries that a call frees if it is not refused: "by a remove of it or a rename that replaced it"
 unfoldable pub wouldFreeNamed : Named → NamedCall → ℕ → Bool
@@ -101,6 +105,7 @@ wouldFreeNamed N (exchange t s d x) e = false
 wouldFreeNamed N (lookup p) e = false
 wouldFreeNamed N (turn Q) e = false
 wouldFreeNamed N (batch rs ns xs) e = false
+wouldFreeNamed N (apply stock site name) e = false
 
 unfoldable pub freesNamed : Named → NamedCall → ℕ → Bool
 freesNamed N c e = isDone (replyNamed N c) && wouldFreeNamed N c e
@@ -116,11 +121,12 @@ wouldEndNamed (exchange u s d x) t = false
 wouldEndNamed (lookup p) t = false
 wouldEndNamed (turn Q) t = false
 wouldEndNamed (batch rs ns xs) t = false
+wouldEndNamed (apply stock site name) t = false
 
 unfoldable pub endsNamed : Named → NamedCall → ℕ → Bool
 endsNamed N c t = isDone (replyNamed N c) && wouldEndNamed c t
 
--- document 01's call on the six tables that a call comes to; a lookup, a turn and a batch come to none
+-- document 01's call on the six tables that a call comes to; a lookup, a turn and a batch come to none, and an application makes several
 unfoldable pub onCore : Named → NamedCall → List Call
 onCore N (lifted c q) = c ∷ []
 onCore N (create t d k n) = Call.create t d k ∷ []
@@ -131,3 +137,4 @@ onCore N (exchange t s d x) = Call.exchange t s d x ∷ []
 onCore N (lookup p) = []
 onCore N (turn Q) = []
 onCore N (batch rs ns xs) = []
+onCore N (apply stock site name) = []

@@ -14,11 +14,14 @@ use Rattle.tree.specs.Exchange.{exchangeChecks}
 use Rattle.theorems.specs.Calls.{Call, reply}
 use Rattle.theorems.specs.Named.{refusalsOf, ByVerdict}
 use Rattle.names.specs.Paths.{pathChecks, found}
+use Rattle.policy.specs.Find.{partOf}
+use Rattle.policy.specs.Find as files
 use Rattle.queue.specs.Queue.{queueSound}
 use Rattle.named.specs.Named.{Named, namedSound}
 use Rattle.named.specs.Tree.{createNamedChecks, linkNamedChecks, renameNamedChecks}
 use Rattle.named.specs.Batch.{batchChecks}
-use Rattle.named.specs.Calls.{NamedCall, lifted, create, remove, link, rename, exchange, lookup, turn, batch, replyNamed, onCore}
+use Rattle.named.specs.Policy.{applied, foundChecks}
+use Rattle.named.specs.Calls.{NamedCall, lifted, create, remove, link, rename, exchange, lookup, turn, batch, apply, replyNamed, onCore}
 
 -- what is EIO before any other refusal: tables that are not sound; at a turn and in a batch they are an answer, and a queue that is not sound is EIO
 unfoldable pub faulty : Named → NamedCall → Bool
@@ -31,8 +34,9 @@ faulty N (exchange t s d x) = not (namedSound N)
 faulty N (lookup p) = not (namedSound N)
 faulty N (turn Q) = not (queueSound Q)
 faulty N (batch rs ns xs) = false
+faulty N (apply stock site name) = not (namedSound N)
 
--- the refusals of a call on sound tables, in their order; a lookup's components come after its first checks
+-- the refusals of a call on sound tables, in their order; a lookup's components come after its first checks, an application's calls after the files and the name
 unfoldable pub refusalsNamed : Named → NamedCall → List Check
 refusalsNamed N (lifted c q) = refusalsOf (N .core) c
 refusalsNamed N (create t d k n) = createNamedChecks N t d k n
@@ -43,6 +47,7 @@ refusalsNamed N (exchange t s d x) = exchangeChecks (N .core) t s d x
 refusalsNamed N (lookup p) = pathChecks p ++ (true ⇒ errorOf (found (N .core .entries) (N .names) p) ∷ [])
 refusalsNamed N (turn Q) = []
 refusalsNamed N (batch rs ns xs) = batchChecks rs xs
+refusalsNamed N (apply stock site name) = foundChecks stock site name ++ (true ⇒ errorOf (applied N (partOf stock site (files.found stock site name)) .reply) ∷ [])
 
 -- document 01's call on the six tables gave this very reply, and names the layer as `ByVerdict` says
 pub record PassedOn (N : Named) (c : NamedCall) (e : Errno) (l : ℕ) (s : Rights) : Type 0 where

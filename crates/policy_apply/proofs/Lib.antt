@@ -1,4 +1,3 @@
 -- The laws of applying.
-pub mod Calls
 pub mod Rows
 pub mod Undone

@@ -1,1 +1,1 @@
-// No code: how a ruleset's part of a policy file is applied, and the laws of it.
+// No code: what applying a ruleset of a policy file promises, and the laws of it.

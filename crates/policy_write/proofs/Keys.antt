@@ -9,13 +9,13 @@ use lib.Dec.{eqb, leb, ltb}
 use lib.ListN.{length}
 use borrow.Author.Tests.{eqb-true, eqb-false, eq-eqb, ne-eqb, leb-true, leb-false, ltb-true, ltb-false}
 use Rattle.laws.proofs.Bools.{split, clash, and-l, and-r, both, either}
-use Rattle.laws.proofs.Tests.{first-passes, first-least}
+use Rattle.laws.proofs.Tests.{none-at, first-passes, first-least}
 use Rattle.laws.proofs.Cells.{past}
-use Rattle.tables.specs.Tables.{ruleWidth, ruleType, ruleKey, ruleRights}
+use Rattle.tables.specs.Tables.{ruleWidth, pathRule, ruleType, ruleKey, ruleRights}
 use Rattle.sound_rules.specs.Rules.{ruleCount}
 use Rattle.judge.specs.Rules.{isRule, rulePlace, rightsOn}
 use Rattle.policy_write.specs.Order.{Keyed}
-use Rattle.policy_write.specs.File.{keyedBelow, keyed}
+use Rattle.policy_write.specs.File.{keyedBelow, keyed, anyPath}
 use Rattle.policy_write.proofs.Lists.{In}
 
 -- rules with distinct keys that grant something
@@ -121,6 +121,15 @@ module _ (ty : ℕ) (rules : List ℕ) where
         let h = first-passes (isRule rules ty k) (ruleCount rules) (omega arith) in
         let s : p ≡ i = K .apart p i (omega arith) l (rule-type k p h ∙ sym (a .2)) (rule-key k p h) in
         ap (λ (n : ℕ). ruleRights rules (rulePlace rules ty n)) e ∙ ap (ruleRights rules) s ∙ sym (ap (λ (w : Keyed ℕ). w .rights) (a .3))
+
+-- what it tells that no path rule passes a test
+pub no-path : (test : ℕ → ℕ → Bool) (rules : List ℕ) → anyPath test rules ≡ false → (x : Keyed ℕ) → In x (keyed pathRule rules) → test (x .key) (x .rights) ≡ false
+unfolding anyPath
+no-path test rules h x m =
+    let a = keyed-of pathRule rules x m in
+    let i = a .0 in
+    let n = none-at (λ j. eqb (ruleType rules j) pathRule && test (ruleKey rules j) (ruleRights rules j)) (ruleCount rules) i h (a .1) in
+    ap (λ (w : Keyed ℕ). test (w .key) (w .rights)) (a .3) ∙ (rw (eq-eqb (ruleType rules i) pathRule (a .2)) at n)
 
 -- a rule is of one type
 module _ (ty ty′ : ℕ) (other : ty ≡ ty′ → ⊥) (rules : List ℕ) where

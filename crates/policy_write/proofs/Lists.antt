@@ -28,3 +28,8 @@ pub in-left : {A : Type 0} (xs ys : List A) (x : A) → In x xs → In x (xs ++ 
 unfolding In
 in-left [] ys x m = absurd m
 in-left (y ∷ xs) ys x m = either m (λ e. inl e) (λ k. inr (in-left xs ys x k))
+
+pub in-right : {A : Type 0} (xs ys : List A) (x : A) → In x ys → In x (xs ++ ys)
+unfolding In
+in-right [] ys x m = m
+in-right (y ∷ xs) ys x m = inr (in-right xs ys x m)

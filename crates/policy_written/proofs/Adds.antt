@@ -27,11 +27,16 @@ use Rattle.names.specs.Names.{namesSound}
 use Rattle.names.specs.Paths.{maxPath, pathOf}
 use Rattle.policy.specs.Meaning.{Rule, path, port}
 use Rattle.named.specs.Named.{Named, withNames, namedSound, NamedOutcome, namedOutcome}
-use Rattle.named.specs.Calls.{lookup, replyNamed}
+use Rattle.named.specs.Policy.{lookupNamed, addAt, addRule, orClose, addRules}
+use Rattle.named.specs.Calls.{outcomeNamed}
 use Rattle.named.proofs.Lookup.{lookup-path}
-use Rattle.named.proofs.Translate.{lifted-outcome}
-use Rattle.policy_apply.specs.Apply.{addAt, addRule, orClose, addRules}
+use Rattle.named.proofs.Made.{lift-goes}
 use Rattle.policy_written.proofs.Filled.{Raw, Filled, New, new-place, filled-added, head-kept}
+
+looked-up : (X : Named) (e : ℕ) → namedSound X ≡ true → live (X .core .entries) e ≡ true → length (pathOf (X .core .entries) (X .names) e) ≤ maxPath
+    → lookupNamed X (pathOf (X .core .entries) (X .names) e) .reply ≡ Done e
+unfolding outcomeNamed
+looked-up X e h l s = lookup-path X e h l s
 
 -- rules with keys that are not among the earlier ones
 unfoldable pub Fresh : List Raw → List Raw → Type 0
@@ -115,12 +120,12 @@ module _ (N : Named) (names-now : namesSound (N .core .entries) (N .names) ≡ t
           (ap (λ (p : NamedOutcome). p .reply) d, subst (λ (p : NamedOutcome). Having (p .left) (L ++ q ∷ [])) (sym d) (one-more (subst (λ (p : Outcome). sound (p .left) ≡ true) e s)))
 
       path-added : (p : List ℕ) (e : ℕ) → q .sort ≡ pathRule → object (X .core .entries) e ≡ q .key → within (q .rights) fs ≡ true → live (X .core .entries) e ≡ true → sweeping e (q .rights) ≡ false
-          → pastFileSet (X .core .entries) e (q .rights) ≡ false → replyNamed X (lookup p) ≡ Done e → Added (path (q .rights) p)
+          → pastFileSet (X .core .entries) e (q .rights) ≡ false → lookupNamed X p .reply ≡ Done e → Added (path (q .rights) p)
       unfolding addRule addAt outcomeOf pathAdded
       path-added p e s o w l sw f k =
           let z = path-passes e s o w l sw f in
           by-done (path (q .rights) p) (pathAdded (X .core) r e (q .rights) 0)
-          (ap (addAt X r (q .rights)) k ∙ lifted-outcome X (add-path-rule r e (q .rights) 0) refl names-still)
+          (ap (addAt X r (q .rights)) k ∙ sym (lift-goes X (outcomeOf (X .core) (add-path-rule r e (q .rights) 0)) names-still))
           (sym (call-done (X .core) (addPathChecks (X .core) r e (q .rights) 0) (addDone (X .core) r pathRule (object (X .core .entries) e) (q .rights)) {b = true} {e = 0} (sym (H .still)) refl (sym z) refl) ∙ rw (o, ← s))
           (kept-path-added (X .core) r e (q .rights) 0 (H .still))
 
@@ -129,7 +134,7 @@ module _ (N : Named) (names-now : namesSound (N .core .entries) (N .names) ≡ t
       port-added s b w =
           let z = port-passes s b w in
           by-done (port (q .rights) (q .key)) (portAdded (X .core) r (q .key) (q .rights) 0)
-          (lifted-outcome X (add-port-rule r (q .key) (q .rights) 0) refl names-still)
+          (sym (lift-goes X (outcomeOf (X .core) (add-port-rule r (q .key) (q .rights) 0)) names-still))
           (sym (call-done (X .core) (addPortChecks (X .core) r (q .key) (q .rights) 0) (addDone (X .core) r portRule (q .key) (q .rights)) {b = true} {e = 0} (sym (H .still)) refl (sym z) refl) ∙ rw (← s))
           (kept-port-added (X .core) r (q .key) (q .rights) 0 (H .still))
 
@@ -168,7 +173,7 @@ module _ (N : Named) (names-now : namesSound (N .core .entries) (N .names) ≡ t
       let i : p ≡ pathOf (X .core .entries) (X .names) e = f .is-path ∙ sym (rw (es, H .same-names) refl) in
       let l : live (X .core .entries) e ≡ true = rw es (f .alive) in
       let s : length (pathOf (X .core .entries) (X .names) e) ≤ maxPath = subst (λ (w : List ℕ). length w ≤ maxPath) i (f .short) in
-      let found : replyNamed X (lookup p) ≡ Done e = ap (λ (w : List ℕ). replyNamed X (lookup w)) i ∙ lookup-path X e (all-still X L H) l s in
+      let found : lookupNamed X p .reply ≡ Done e = ap (λ (w : List ℕ). lookupNamed X w .reply) i ∙ looked-up X e (all-still X L H) l s in
       subst (λ (m : ℕ). (addRule r X (path m p) .reply ≡ Done 0) × Having (addRule r X (path m p) .left) (L ++ q ∷ [])) (sym k)
       (path-added X L H q new room (λ z. f .some (k ∙ z)) p e (f .sort) (rw es (f .of)) (rw (← k) (f .asked)) l (rw (← k) (f .allowed)) (rw (es, ← k) (f .in-set)) found)
   one-add X L H (port rights n) q f new room =

@@ -2,3 +2,7 @@
 pub mod Filled
 pub mod Create
 pub mod Adds
+pub mod Applied
+pub mod Sound
+pub mod Trip
+pub mod Proved

@@ -9,16 +9,12 @@ use Rattle.access.specs.declared.errno.Reply.the-variants.{Done}
 use Rattle.tables.specs.Layers.{rulesetAt}
 use Rattle.ruleset.specs.Create.{freeRuleset}
 use Rattle.policy.specs.Files.{placeOf, readFile}
-use Rattle.policy.specs.Find.{maxFile, found, partOf}
+use Rattle.policy.specs.Find.{maxFile}
 use Rattle.policy.specs.declared.Read.the-variants.{Next}
 use Rattle.policy_write.specs.Agree.{Agree}
 use Rattle.named.specs.Named.{Named, NamedOutcome}
-use Rattle.policy_apply.specs.Apply.{applied}
+use Rattle.named.specs.Policy.{applyNamed}
 use Rattle.policy_written.specs.Write.{writeNamed, writtenOut}
-
--- the ruleset of a name in two files, applied
-abbrev pub applyNamed : Named → List ℕ → List ℕ → List ℕ → NamedOutcome
-applyNamed N stock site name = applied N (partOf stock site (found stock site name))
 
 -- the bytes that a success wrote
 abbrev pub bytesOut : Named → ℕ → List ℕ → List ℕ → ℕ → List ℕ

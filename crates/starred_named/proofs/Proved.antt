@@ -46,7 +46,7 @@ use Rattle.theorems.specs.Calls.{Call, create-ruleset, close-ruleset, add-path-
 use Rattle.names.specs.Names.{sameBytes, badBytes, nameChecks, rowAt, nameOf, putName, dropName}
 use Rattle.named.specs.Named.{Named, withNames, namedSound, NamedOutcome, namedOutcome, namedAnswer, namedCall, judgedBy, noNames, freshNamed}
 use Rattle.named.specs.Tree.{createTarget, newName, createBefore, newNames, createNamedChecks, createNamed, linkTarget, linkBefore, linkNamedChecks, linkNamed, replacedBy, renameBefore, renameNamedChecks, renamedNames, renameNamed}
-use Rattle.named.specs.Calls.{NamedCall, lifted, create, remove, link, rename, exchange, lookup, turn, batch, outcomeNamed, afterNamed, allNamed}
+use Rattle.named.specs.Calls.{NamedCall, lifted, create, remove, link, rename, exchange, lookup, turn, batch, apply, outcomeNamed, afterNamed, allNamed}
 use Rattle.named.proofs.Made.{core-sound, names-sound, lift-goes}
 use Rattle.named.proofs.Kept.{kept}
 use Rattle.named.proofs.Fresh.{fresh-sound-named, never-unsound}
@@ -110,6 +110,7 @@ played N (exchange t s d x) = outcomeNamed N (exchange t s d x)
 played N (lookup p) = outcomeNamed N (lookup p)
 played N (turn Q) = outcomeNamed N (turn Q)
 played N (batch rs ns xs) = outcomeNamed N (batch rs ns xs)
+played N (apply stock site name) = outcomeNamed N (apply stock site name)
 
 -- ---- sound tables pass the tests
 past : (T : Tables) (cs : List Check) (done : Outcome) → sound T ≡ true → call T cs done ≡ answer T cs done
@@ -156,6 +157,7 @@ same N (exchange t s d x) h = refl
 same N (lookup p) h = refl
 same N (turn Q) h = refl
 same N (batch rs ns xs) h = refl
+same N (apply stock site name) h = refl
 
 -- a list of calls played
 unfoldable playedAll : Named → List NamedCall → Named
