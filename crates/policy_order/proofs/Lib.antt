@@ -1,0 +1,4 @@
+-- The laws of putting in order.
+pub mod Shift
+pub mod Sorted
+pub mod Ordering

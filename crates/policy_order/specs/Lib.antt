@@ -1,0 +1,2 @@
+-- Rules put into their order one after another.
+pub mod Insert
