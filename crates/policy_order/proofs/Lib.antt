@@ -2,3 +2,4 @@
 pub mod Shift
 pub mod Sorted
 pub mod Ordering
+pub mod Picks
