@@ -48,7 +48,7 @@ module _ (ty : ℕ) (rules : List ℕ) where
   more : (n : ℕ) (x : Keyed ℕ) → RuleOf n x → RuleOf (suc n) x
   more n x r = let h = r .1 in (r .0, omega arith, r .2, r .3)
 
-  of-below : (n : ℕ) (x : Keyed ℕ) → In x (keyedBelow ty rules n) → RuleOf n x
+  pub of-below : (n : ℕ) (x : Keyed ℕ) → In x (keyedBelow ty rules n) → RuleOf n x
   unfolding keyedBelow In
   of-below zero x m = absurd m
   of-below (suc n) x m =
