@@ -7,11 +7,11 @@ use lib.ListN.{length, getD, length-append}
 use lib.Seq.{sets, length-sets}
 use Rattle.tables.specs.Tables.{ruleKey, ruleRights}
 use Rattle.names.specs.Paths.{pathOf}
-use Rattle.policy.specs.Fields.{header, pathTag, portTag}
+use Rattle.policy.specs.Fields.{bytesOf, header, pathTag, portTag}
 use Rattle.policy.specs.Grammar.{rightsSize}
-use Rattle.policy_write.specs.Written.{bytesOf, fieldBytes, ruleBytes}
+use Rattle.policy_write.specs.Written.{fieldBytes, ruleBytes}
 use Rattle.policy_write.proofs.Bytes.{length-bytes}
-use Rattle.policy_put.proofs.Puts.{sets-append}
+use Rattle.policy_bytes.proofs.Puts.{sets-append}
 use Rattle.policy_size.specs.Fields.{pathField, portField, fieldsIn}
 use Rattle.policy_size.proofs.Fields.{fields-more, fields-part}
 

@@ -8,11 +8,11 @@ use policy::PORT_SIZE;
 use policy::PORT_TAG;
 use policy::RIGHTS_SIZE;
 use policy::RULESET_TAG;
+use policy_bytes::put_bytes;
+use policy_bytes::put_header;
+use policy_bytes::put_number;
 use policy_paths::path_length;
 use policy_paths::put_path;
-use policy_put::put_bytes;
-use policy_put::put_header;
-use policy_put::put_number;
 use rule_cells::rule_key;
 use rule_cells::rule_rights;
 ghost use mathlib.Core.Path.{_≡_};
@@ -21,10 +21,10 @@ ghost use Prim.Native.Nat.{_+_, _/_, _%_, _≤_, _<_};
 ghost use lib.ListN.{length, getD};
 ghost use lib.Seq.{sets};
 ghost use Rattle.names.specs.Paths.{maxPath, pathOf};
-ghost use Rattle.policy.specs.Fields.{header, rulesetTag, masksTag};
+ghost use Rattle.policy.specs.Fields.{bytesOf, header, rulesetTag, masksTag};
 ghost use Rattle.policy.specs.Files.{maxRulesetName, masksSize};
 ghost use Rattle.policy.specs.Grammar.{rightsSize, portSize};
-ghost use Rattle.policy_write.specs.Written.{bytesOf, fieldBytes};
+ghost use Rattle.policy_write.specs.Written.{fieldBytes};
 ghost use Rattle.policy_size.specs.Fields.{pathField, portField, fieldsIn, Short};
 
 // A rule's tag, length and rights.

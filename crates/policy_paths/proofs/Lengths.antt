@@ -10,7 +10,7 @@ use Rattle.tables.specs.Tables.{parent}
 use Rattle.access.specs.Limits.{maxEntries}
 use Rattle.names.specs.Names.{slash, nameAt}
 use Rattle.names.specs.Paths.{pathUp, pathOf}
-use Rattle.policy_put.proofs.Puts.{sets-before}
+use Rattle.policy_bytes.proofs.Puts.{sets-before}
 
 append-none : (xs : List ℕ) → xs ++ [] ≡ xs
 append-none [] = refl

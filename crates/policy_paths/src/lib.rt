@@ -3,7 +3,7 @@ use access::limits::MAX_ENTRIES;
 use name_rows::name_of;
 use names::SLASH;
 use path_order::path_ordered;
-use policy_put::put_bytes;
+use policy_bytes::put_bytes;
 use tables::rows::entry_live;
 use tables::rows::object_of;
 use tables::rows::parent_of;

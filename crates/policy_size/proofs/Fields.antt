@@ -10,11 +10,11 @@ use borrow.Author.Tests.{eqb-true, eqb-false}
 use Rattle.laws.proofs.Bools.{split}
 use Rattle.tables.specs.Tables.{ruleKey, ruleRights}
 use Rattle.names.specs.Paths.{pathOf}
-use Rattle.policy.specs.Fields.{header}
+use Rattle.policy.specs.Fields.{bytesOf, header}
 use Rattle.policy.specs.Grammar.{rightsSize, portSize}
 use Rattle.policy.specs.Meaning.{Rule, path, port}
 use Rattle.policy_write.specs.Order.{Keyed}
-use Rattle.policy_write.specs.Written.{bytesOf, fieldBytes, ruleBytes, rulesBytes}
+use Rattle.policy_write.specs.Written.{fieldBytes, ruleBytes, rulesBytes}
 use Rattle.policy_write.proofs.Bytes.{length-bytes}
 use Rattle.policy_order.specs.Insert.{itemAs, itemsAs}
 use Rattle.policy_size.specs.Fields.{pathField, portField, fieldsIn, pathSize, sumIn}

@@ -5,8 +5,7 @@ use borrow.Author.Needs.{needs}
 use Prim.Native.Nat.{_+_}
 use mathlib.Core.List.{_++_}
 use lib.ListN.{length, length-append}
-use Rattle.policy.specs.Fields.{masksTag}
-use Rattle.policy_write.specs.Written.{bytesOf}
+use Rattle.policy.specs.Fields.{bytesOf, masksTag}
 use Rattle.policy_write.proofs.Bytes.{length-bytes}
 use Rattle.policy_fill.proofs.Parts.{put-two, put-rule}
 use Rattle.policy_fill.proofs.put_masks.Statement.{statement}

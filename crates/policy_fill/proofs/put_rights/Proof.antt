@@ -5,7 +5,7 @@ use borrow.Author.Needs.{needs}
 use mathlib.Core.List.{[], _∷_}
 use Prim.Native.Nat.{_+_, _/_, _%_}
 use Rattle.policy.specs.Grammar.{rightsSize}
-use Rattle.policy_write.specs.Written.{bytesOf}
+use Rattle.policy.specs.Fields.{bytesOf}
 use Rattle.policy_fill.proofs.Parts.{put-two}
 use Rattle.policy_fill.proofs.put_rights.Statement.{statement}
 use Rattle.policy_fill.proofs.put_rights.Tie as tie

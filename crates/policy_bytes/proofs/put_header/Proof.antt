@@ -3,9 +3,9 @@ use Prim.Native.Nat.{_+_, _<_, _/_, _%_}
 use native.Mathlib.Omega.{arith}
 use borrow.Author.Needs.{needs}
 use lib.ListN.{length, length-set}
-use Rattle.policy_put.proofs.Puts.{header-put}
-use Rattle.policy_put.proofs.put_header.Statement.{statement}
-use Rattle.policy_put.proofs.put_header.Tie as tie
+use Rattle.policy_bytes.proofs.Puts.{header-put}
+use Rattle.policy_bytes.proofs.put_header.Statement.{statement}
+use Rattle.policy_bytes.proofs.put_header.Tie as tie
 
 pub put-header-spec : {M : Type 1} → statement M
 put-header-spec =

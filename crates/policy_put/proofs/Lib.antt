@@ -1,2 +1,0 @@
--- Laws of bytes written one after another.
-pub mod Puts
