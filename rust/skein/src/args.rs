@@ -4,7 +4,7 @@ use crate::picture::Chosen;
 use crate::policy::PolicyCommand;
 use crate::search::Question;
 use crate::words::{one_of, quoted};
-use skeinrabbit::parse_number;
+use skeinrabbit::{parse_number, Level};
 use std::ffi::{OsStr, OsString};
 use std::io::IsTerminal;
 
@@ -35,7 +35,7 @@ const fn known(
     }
 }
 
-const OPTIONS: [Known; 14] = [
+const OPTIONS: [Known; 16] = [
     known(
         "--json",
         None,
@@ -59,6 +59,8 @@ const OPTIONS: [Known; 14] = [
     known("--depth", Some("a number"), &["search"]),
     known("--states", Some("a number"), &["search"]),
     known("--from", Some("a line"), &["least"]),
+    known("--policy", None, &["diff"]),
+    known("--level", Some("a level"), &["diff"]),
     Known {
         short: Some("-h"),
         ..known("--help", None, &COMMANDS)
@@ -78,6 +80,8 @@ pub enum Command {
     Why(OsString, Option<usize>),
     Search(OsString, Question),
     Diff(OsString, OsString),
+    /// Two policy files, at a level.
+    DiffPolicies([OsString; 2], Level),
     Least(OsString, Traced),
     Demo,
     Import(OsString),
@@ -262,15 +266,42 @@ impl Words {
             "least" => Ok(Command::Least(one(name, "TRACE", rest)?, self.traced()?)),
             "import" => Ok(Command::Import(one(name, "DIRECTORY", rest)?)),
             "policy" => Ok(Command::Policy(policy(rest)?)),
-            "diff" => match rest {
-                [a, b] => Ok(Command::Diff(a.clone(), b.clone())),
-                [_, _, more, ..] => Err(too_many(more)),
-                _ => Err("diff needs two FILEs".to_owned()),
-            },
+            "diff" => self.diff(rest),
             _ => match rest {
                 [] => Ok(Command::Demo),
                 [more, ..] => Err(too_many(more)),
             },
+        }
+    }
+
+    fn diff(&self, files: &[OsString]) -> Result<Command, String> {
+        let (a, b) = match files {
+            [a, b] => (a.clone(), b.clone()),
+            [_, _, more, ..] => return Err(too_many(more)),
+            _ => return Err("diff needs two FILEs".to_owned()),
+        };
+        match (self.has("--policy"), self.level()?) {
+            (true, level) => Ok(Command::DiffPolicies(
+                [a, b],
+                level.unwrap_or(Level::LATEST),
+            )),
+            (false, None) => Ok(Command::Diff(a, b)),
+            (false, Some(_)) => Err("--level is for diff --policy".to_owned()),
+        }
+    }
+
+    fn level(&self) -> Result<Option<Level>, String> {
+        let Some(word) = self.last("--level").map(OsStr::to_string_lossy) else {
+            return Ok(None);
+        };
+        let level = parse_number(&word).map(Level::new);
+        match level.filter(|level| (Level::new(1)..=Level::LATEST).contains(level)) {
+            Some(level) => Ok(Some(level)),
+            None => Err(format!(
+                "--level is a level from 1 to {}, not {}",
+                Level::LATEST,
+                quoted(&word)
+            )),
         }
     }
 
@@ -410,6 +441,19 @@ mod tests {
     }
 
     #[test]
+    fn policies_differ_at_a_level() {
+        for (line, level) in [
+            ("diff --policy a b", 6),
+            ("diff a b --level 1 --policy", 1),
+            ("diff a --policy --level=6 b", 6),
+        ] {
+            let command = read(line).map(|options| options.command);
+            let expected = Command::DiffPolicies(["a".into(), "b".into()], Level::new(level));
+            assert_eq!(command, Ok(expected), "{line}");
+        }
+    }
+
+    #[test]
     fn files_may_look_like_options() {
         assert_eq!(read("run -").unwrap().command, Command::Run("-".into()));
         assert_eq!(
@@ -457,6 +501,14 @@ mod tests {
             "-j",
             "diff a",
             "diff a b c",
+            "diff --policy a",
+            "diff --policy=yes a b",
+            "diff --level 3 a b",
+            "diff --policy --level 0 a b",
+            "diff --policy --level 7 a b",
+            "diff --policy --level x a b",
+            "run --policy a",
+            "policy check --level 3 a",
             "why a --line 0",
             "why a --line x",
             "why a --depth 3",

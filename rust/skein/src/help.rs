@@ -10,6 +10,7 @@ usage: skein run [--json] [--verbose] FILE
        skein search [--json] [--thread THREAD] .. [--entry ENTRY] ..
                     [--right RIGHTS] [--depth N] [--states N] FILE
        skein diff [--json] FILE FILE
+       skein diff --policy [--level N] [--json] FILE FILE
        skein least [--json] [--thread THREAD] .. [--from LINE] TRACE
        skein demo [--json] [--all-rights]
        skein import DIRECTORY
@@ -92,11 +93,18 @@ the states ran out before the depth was reached; 64 wrong usage
 
 const DIFF: &str = "\
 usage: skein diff [--json] OLD NEW
+       skein diff --policy [--level N] [--json] OLD NEW
 
 Plays two files and prints which rights each thread gains (+) and loses (-) from
 OLD to NEW, by path and port, and which threads it reaches newly or no longer.
 Threads are the same if they have the same label, or number where they have
 none. In full: docs/DIFF.md.
+
+  --policy   OLD and NEW are policy files, as skein policy takes them: prints
+             which rulesets are gone or new, and what the masks of the others
+             and their rules at each path and port gain and lose
+  --level N  policy files as they are at this level, 1 to 6 (6)
+  --json     one JSON document
 
 Exit codes: 0 no difference; 1 some; 2 bad input; 3 a file cannot be read; 64
 wrong usage
@@ -140,7 +148,7 @@ Commands
   search   asks whether threads, together, can come to a right that each of
            them lacked, and prints the calls.
   diff     prints the rights that each thread gains and loses from one file to
-           another.
+           another; with --policy those of the rulesets of two policy files.
   least    prints the least policy under which the calls of a TRACE succeed.
   demo     shows document 01's worked tree as explain does, and plays its
            worked cases.

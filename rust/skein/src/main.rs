@@ -107,6 +107,7 @@ fn perform(options: &Options) -> Outcome {
         Command::Diff(a, b) => with_play(a, |a, old| {
             with_play(b, |b, new| diff::diff(&view, [(a, old), (b, new)]))
         }),
+        Command::DiffPolicies(files, level) => diff::policies(&view, files, *level),
         Command::Least(file, traced) => with_scenario(file, |name, scenario| {
             least::least(&view, name, scenario, traced)
         }),

@@ -48,7 +48,7 @@ const PAGES: [(&str, usize, usize); 6] = [
     ("EXPLAIN", 0, 3),
     ("WHY", 0, 1),
     ("SEARCH", 0, 2),
-    ("DIFF", 1, 1),
+    ("DIFF", 1, 3),
     ("LEAST", 0, 1),
 ];
 
@@ -64,16 +64,16 @@ fn plays(block: &Block) -> u64 {
     json(&ran.out).at("expectations").number()
 }
 
-/// Runs the command of a `console` block on the last scenarios, as many as it names files, and compares what it writes.
-fn writes(block: &Block, scenarios: &[&str]) {
+/// Runs the command of a `console` block on the last scenarios or policies, as many as it names files, and compares what it writes.
+fn writes(block: &Block, texts: &[&str]) {
     let (first, expected) = block.text.split_once('\n').expect("a command");
     let command_line = first.strip_prefix("$ skein ").expect("a command");
     let words = command_line.strip_suffix("; echo \"exit $?\"");
     let words: Vec<&str> = words.expect("a command that ends so").split(' ').collect();
-    let names = words.iter().filter(|word| word.ends_with(".skein"));
-    let names: Vec<&str> = names.copied().collect();
-    assert!(!names.is_empty() && names.len() <= scenarios.len());
-    let last = &scenarios[scenarios.len() - names.len()..];
+    let is_file = |word: &str| word.ends_with(".skein") || word.ends_with(".txt");
+    let names: Vec<&str> = words.iter().copied().filter(|word| is_file(word)).collect();
+    assert!(!names.is_empty() && names.len() <= texts.len());
+    let last = &texts[texts.len() - names.len()..];
     let files = names.iter().zip(last);
     let files: Vec<Scratch> = files
         .map(|(name, text)| Scratch::new(name, text.as_bytes()))
@@ -88,12 +88,12 @@ fn writes(block: &Block, scenarios: &[&str]) {
 /// Plays the scenarios of a page, and compares the outputs that it shows; answers how many of each.
 fn play(blocks: &[Block]) -> (usize, usize) {
     let (mut played, mut compared) = (0, 0);
-    let mut scenarios = Vec::new();
+    let mut texts = Vec::new();
     for (place, block) in blocks.iter().enumerate() {
         let shown = |next: &Block| next.language == "console";
         match block.language.as_str() {
             "skein" => {
-                scenarios.push(block.text.as_str());
+                texts.push(block.text.as_str());
                 // What is shown below it need not be what a scenario wants.
                 if !blocks.get(place + 1).is_some_and(shown) {
                     assert!(plays(block) > 0, "line {}: expects nothing", block.line);
@@ -101,9 +101,10 @@ fn play(blocks: &[Block]) -> (usize, usize) {
                 }
             }
             "console" => {
-                writes(block, &scenarios);
+                writes(block, &texts);
                 compared += 1;
             }
+            "policy" => texts.push(block.text.as_str()),
             "text" => {}
             other => panic!("line {}: `{other}` is no kind of example", block.line),
         }

@@ -123,7 +123,7 @@ fn unknown_words_of_the_command_line_get_the_known_ones() {
         (&["walk"][..], "there is no command `walk`; expected one: run, explain, why, search, diff, least, demo, import, policy\n"),
         (&["Explain", "f"], "there is no command `Explain`; expected one: perhaps `explain`\n"),
         (&["run", "f", "--jsno"], "there is no option `--jsno`; expected one: perhaps `--json`\n"),
-        (&["run", "f", "--colour=never"], "there is no option `--colour=never`; expected one: --json, --all-rights, --verbose, --color, --thread, --entry, --html, --line, --right, --depth, --states, --from, --help, --version\n"),
+        (&["run", "f", "--colour=never"], "there is no option `--colour=never`; expected one: --json, --all-rights, --verbose, --color, --thread, --entry, --html, --line, --right, --depth, --states, --from, --policy, --level, --help, --version\n"),
     ] {
         let ran = skein(words);
         assert_eq!(ran.code, 64);

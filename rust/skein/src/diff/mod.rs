@@ -1,12 +1,16 @@
 //! `skein diff`: the rights that threads have at paths and ports, and the threads that they reach, in one play and in another.
+mod change;
+mod rulesets;
+
+pub use rulesets::policies;
+
 use crate::json::Json;
-use crate::lines::broken;
 use crate::messages::not_as_written;
-use crate::outcome::{Outcome, View, BAD_INPUT, FOUND};
+use crate::outcome::{Outcome, View, BAD_INPUT};
 use crate::picture::{is_above, Held, Picture};
 use crate::play::{reach, Play};
-use crate::transcript::rights_json;
-use crate::words::{escaped, shown};
+use crate::words::shown;
+use change::{block, changed, joined, only_in, outcome, port_name, Change, Line, WIDEST};
 use skeinrabbit::{PortRights, Rights, Scopes};
 use std::collections::{BTreeMap, BTreeSet};
 
@@ -27,7 +31,7 @@ struct Rows {
 }
 
 impl Policy {
-    /// What a play leaves. Here a policy file would be read and applied.
+    /// What a play leaves.
     fn of(play: &mut Play) -> Policy {
         let picture = Picture::ask(&mut play.player, true);
         let paths: Vec<String> = picture.nodes.iter().map(|node| node.path.clone()).collect();
@@ -83,13 +87,6 @@ struct ThreadDifference {
     reached: Vec<Change<Scopes, Vec<String>>>,
 }
 
-/// What is gained and lost at a place.
-struct Change<P, R> {
-    place: P,
-    gained: R,
-    lost: R,
-}
-
 pub fn diff(view: &View, mut plays: [(&str, Play); 2]) -> Outcome {
     let wrong = plays
         .iter()
@@ -106,13 +103,12 @@ pub fn diff(view: &View, mut plays: [(&str, Play); 2]) -> Outcome {
     let names = [0, 1].map(|place| plays.get(place).map_or("", |(name, _)| *name));
     let [old, new] = plays.each_mut().map(|(_, play)| Policy::of(play));
     let difference = Difference::of(&old, &new);
-    let output = if view.json {
-        format!("{}\n", difference.json(names))
-    } else {
-        difference.text(names, view)
-    };
-    let code = if difference.is_empty() { 0 } else { FOUND };
-    Outcome::output(output).with_code(code)
+    outcome(
+        view,
+        difference.is_empty(),
+        || difference.json(names),
+        || difference.text(names, view),
+    )
 }
 
 impl Difference {
@@ -161,31 +157,18 @@ impl Only {
 fn entries(paths: &[String], old: &Rows, new: &Rows) -> Vec<Change<String, Rights>> {
     let changes = paths.iter().filter_map(|path| {
         let (before, now) = (*old.entries.get(path)?, *new.entries.get(path)?);
-        Some(Change {
-            place: path.clone(),
-            gained: now - before,
-            lost: before - now,
-        })
+        Change::of(path.clone(), before, now)
     });
-    changes
-        .filter(|change| !(change.gained | change.lost).is_empty())
-        .collect()
+    changes.collect()
 }
 
 /// What is gained and lost at the ports that a rule of either policy names, and at every other.
 fn ports(old: &Rows, new: &Rows) -> Vec<Change<Option<u64>, PortRights>> {
     let ports: BTreeSet<Option<u64>> = old.ports.keys().chain(new.ports.keys()).copied().collect();
-    let changes = ports.into_iter().map(|port| {
-        let (before, now) = (at_port(old, port), at_port(new, port));
-        Change {
-            place: port,
-            gained: now - before,
-            lost: before - now,
-        }
-    });
-    changes
-        .filter(|change| !(change.gained | change.lost).is_empty())
-        .collect()
+    let changes = ports
+        .into_iter()
+        .filter_map(|port| Change::of(port, at_port(old, port), at_port(new, port)));
+    changes.collect()
 }
 
 impl ThreadDifference {
@@ -218,30 +201,20 @@ fn reached(both: &[&String], old: &Rows, new: &Rows) -> Vec<Change<Scopes, Vec<S
     changes.filter(some).collect()
 }
 
-/// The widest path that is shown whole.
-const WIDEST: usize = 60;
-
 impl Difference {
     fn text(&self, names: [&str; 2], view: &View) -> String {
         if self.is_empty() {
             return "No difference: the same rights for every thread.\n".to_owned();
         }
-        let mut out = String::new();
-        for (name, only) in names.iter().zip(&self.only) {
-            for (what, list) in [("thread", &only.threads), ("entry", &only.paths)] {
-                for word in list {
-                    let line = format!("only in {}: {what} {}", escaped(name), shown(word, WIDEST));
-                    out.push_str(&broken(&line, 4, view.width));
-                }
-            }
-        }
-        for thread in &self.threads {
-            if !out.is_empty() {
-                out.push('\n');
-            }
-            out.push_str(&thread.text(view));
-        }
-        out
+        let only = names.iter().zip(&self.only).map(|(file, only)| {
+            let threads = only_in(file, "thread", &only.threads, view);
+            threads + &only_in(file, "entry", &only.paths, view)
+        });
+        let threads = self.threads.iter();
+        joined(
+            only.collect(),
+            threads.map(|thread| block("thread", &thread.thread, &thread.lines(), view)),
+        )
     }
 
     fn json(&self, [old, new]: [&str; 2]) -> Json {
@@ -263,75 +236,18 @@ impl Difference {
     }
 }
 
-/// A line of a difference: what it is about, and what is gained and lost there.
-struct Line {
-    about: String,
-    gained: String,
-    lost: String,
-}
-
-impl Line {
-    /// `+` before what is gained, `-` before what is lost, each in a line of its own.
-    fn text(&self, width: usize, view: &View) -> String {
-        let mut out = String::new();
-        let mut about = self.about.as_str();
-        for (sign, rights) in [('+', &self.gained), ('-', &self.lost)] {
-            if rights.is_empty() {
-                continue;
-            }
-            let line = format!("  {about:<width$}  {sign} {rights}");
-            let lines = broken(&line, width + 6, view.width);
-            out.push_str(&match sign {
-                '+' => painted(&lines, |line| view.paint.granted(line)),
-                _ => painted(&lines, |line| view.paint.denied(line)),
-            });
-            about = "";
-        }
-        out
-    }
-}
-
-fn painted(lines: &str, paint: impl Fn(&str) -> String) -> String {
-    lines
-        .lines()
-        .map(|line| format!("{}\n", paint(line)))
-        .collect()
-}
-
 impl ThreadDifference {
-    fn text(&self, view: &View) -> String {
-        let lines = self.lines();
-        let widths = lines.iter().map(|line| line.about.chars().count());
-        let width = widths
-            .filter(|width| *width <= view.width / 2)
-            .max()
-            .unwrap_or(0);
-        let name = shown(&self.thread, WIDEST);
-        let mut out = format!("{}\n", view.paint.heading(&format!("thread {name}")));
-        for line in lines {
-            out.push_str(&line.text(width, view));
-        }
-        out
-    }
-
     fn lines(&self) -> Vec<Line> {
         let entries = folded(&self.entries);
-        let entries = entries.into_iter().map(|(change, below)| Line {
-            about: match below {
-                0 => shown(&change.place, WIDEST),
-                _ => format!("{} and {below} below", shown(&change.place, WIDEST)),
-            },
-            gained: named(change.gained, change.gained.is_empty()),
-            lost: named(change.lost, change.lost.is_empty()),
+        let entries = entries.into_iter().map(|(change, below)| {
+            let path = shown(&change.place, WIDEST);
+            change.line(match below {
+                0 => path,
+                _ => format!("{path} and {below} below"),
+            })
         });
-        let ports = self.ports.iter().map(|change| Line {
-            about: match change.place {
-                Some(port) => format!("port {port}"),
-                None => "other ports".to_owned(),
-            },
-            gained: named(change.gained, change.gained.is_empty()),
-            lost: named(change.lost, change.lost.is_empty()),
-        });
+        let ports = self.ports.iter();
+        let ports = ports.map(|change| change.line(port_name(change.place)));
         let reached = self.reached.iter().map(|change| Line {
             about: change.place.to_string(),
             gained: targets(&change.gained),
@@ -341,19 +257,10 @@ impl ThreadDifference {
     }
 
     fn json(&self) -> Json {
-        let entry = |change: &Change<String, Rights>| {
-            let (gained, lost) = (change.gained.iter(), change.lost.iter());
-            changed(
-                "path",
-                Json::text(&change.place),
-                rights_json(gained),
-                rights_json(lost),
-            )
-        };
+        let entry =
+            |change: &Change<String, Rights>| change.json("path", Json::text(&change.place));
         let port = |change: &Change<Option<u64>, PortRights>| {
-            let (gained, lost) = (change.gained.iter(), change.lost.iter());
-            let port = Json::option(change.place, Json::Number);
-            changed("port", port, rights_json(gained), rights_json(lost))
+            change.json("port", Json::option(change.place, Json::Number))
         };
         let scope = |change: &Change<Scopes, Vec<String>>| {
             let threads = [&change.gained, &change.lost];
@@ -386,18 +293,6 @@ fn folded(changes: &[Change<String, Rights>]) -> Vec<(&Change<String, Rights>, u
         }
     }
     folded
-}
-
-fn changed(key: &'static str, place: Json, gained: Json, lost: Json) -> Json {
-    Json::Object(vec![(key, place), ("gained", gained), ("lost", lost)])
-}
-
-fn named(rights: impl ToString, none: bool) -> String {
-    if none {
-        String::new()
-    } else {
-        rights.to_string()
-    }
 }
 
 fn targets(threads: &[String]) -> String {
