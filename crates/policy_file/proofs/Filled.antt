@@ -16,14 +16,14 @@ use Rattle.tables.specs.Tables.{pathRule, portRule}
 use Rattle.tables.specs.Layers.{rulesetAt, rulesetFs, rulesetNet, rulesetScope}
 use Rattle.sound_rules.specs.Rules.{ruleCount}
 use Rattle.names.specs.Paths.{pathOf}
-use Rattle.policy.specs.Fields.{header, rulesetTag, masksTag}
+use Rattle.policy.specs.Fields.{bytesOf, header, rulesetTag, masksTag}
 use Rattle.policy.specs.Files.{masksSize}
 use Rattle.policy.specs.Grammar.{portSize}
 use Rattle.policy.specs.Find.{maxFile}
 use Rattle.policy_order.specs.Insert.{Ordered}
 use Rattle.policy_write.specs.Order.{earlier}
 use Rattle.policy_write.specs.Chosen.{chosenPath}
-use Rattle.policy_write.specs.Written.{fieldBytes, masksBytes, bytesOf}
+use Rattle.policy_write.specs.Written.{fieldBytes, masksBytes}
 use Rattle.policy_write.specs.File.{byPath, policyFile, writtenOver, writeRoom}
 use Rattle.policy_write.proofs.Bytes.{length-masks}
 use Rattle.policy_size.specs.Fields.{pathField, portField, fieldsIn, pathSize, sumIn, Short}
