@@ -2,6 +2,7 @@
 use crate::play::{Played, Player};
 use crate::request::{Place, Request};
 use crate::scenario::{written, Answer, Bad, Mask};
+use crate::words::{cut, WIDEST};
 use skeinrabbit::{Attribute, Entry, Errno, Layer, PortRights, Rights, Ruleset, Tables};
 use std::collections::BTreeMap;
 use std::fmt;
@@ -240,7 +241,10 @@ pub fn add(player: &mut Player, ruleset: Ruleset, spot: &Spot, rights: Mask) -> 
         }
         _ => Err(Errno::EINVAL),
     };
-    let refused = |errno| format!("the rule at {} is refused: {errno}", spot_text(spot));
+    let refused = |errno| {
+        let spot = cut(&spot_text(spot), WIDEST);
+        format!("the rule at {spot} is refused: {errno}")
+    };
     added.map_err(|errno| NoRule::Other(refused(errno)))
 }
 

@@ -9,7 +9,7 @@ use crate::remedy::{add, call_text, least, missing, NoRule, Refused, Rules, Trie
 use crate::request::{Asked, Request};
 use crate::scenario::{Answer, BadLine, Call, Mask, RulesetCall, Scenario, Statement};
 use crate::transcript::{call_json, reason};
-use crate::words::{escaped, shown};
+use crate::words::{cut, escaped, shown, WIDEST};
 use skeinrabbit::{Errno, Layer, Rights};
 use std::collections::BTreeMap;
 
@@ -263,19 +263,17 @@ fn words(player: &Player, refused: &Refused) -> Vec<String> {
             "a link or move to another directory needs refer at both, and layer {layer} denies it at one of them or both"
         )];
     }
+    let path = |entry| cut(&path_of(player, entry), WIDEST);
     let (moved, to) = match refused.request.asked {
         Asked::Link { source, directory }
         | Asked::Rename {
             source, directory, ..
-        } => (path_of(player, source), path_of(player, directory)),
+        } => (path(source), path(directory)),
         Asked::Exchange {
             source,
             entry,
             directory,
-        } => {
-            let both = [source, entry].map(|entry| path_of(player, entry));
-            (both.join(" or "), path_of(player, directory))
-        }
+        } => ([source, entry].map(path).join(" or "), path(directory)),
         _ => return Vec::new(),
     };
     vec![
