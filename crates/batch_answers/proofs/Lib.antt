@@ -1,3 +1,2 @@
--- How code comes to the reply to a request, and to the answers one by one.
-pub mod Replies
+-- How code comes to the answers one by one.
 pub mod Answers

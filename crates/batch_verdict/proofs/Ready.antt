@@ -18,7 +18,8 @@ use Rattle.sound_domains.proofs.Hierarchy.{parent-in-use, named-in-use}
 use Rattle.denied_rows.specs.Rows.{topOf}
 use Rattle.denied_rows.proofs.Kept.{top-few, top-past, rows-none}
 use Rattle.denied_rows.proofs.Ready.{rows-ready}
-use Rattle.batch_verdict.specs.Batch.{Walkable, BatchReady}
+use Rattle.domain_order.specs.Order.{Walkable, OrdersTo}
+use Rattle.batch_verdict.specs.Batch.{BatchReady}
 
 -- a cell that names a layer in use, or none
 named-below : (ls : List ℕ) (y : ℕ) → y ≤ maxLayers → ((l : ℕ) → l < maxLayers → y ≡ suc l → layerInUse ls l ≡ true) → y ≤ topOf ls
@@ -47,9 +48,13 @@ module _ (T : Tables) (S : Sound T) where
   walks : (t : ℕ) → Walkable (T .layers) (youngest (T .threads) t)
   walks t = record { long = S .lengths .layers; starts = youngest-below t; goes = parent-below }
 
--- a batch on sound tables starts with no row filled
-pub batch-ready : (T : Tables) → sound T ≡ true → {top : ℕ} → top ≡ topOf (T .layers)
-    → BatchReady (T .entries) (T .layers) (T .pool) (T .threads) top (replicate (maxLayers * maxEntries) 0) (replicate maxEntries 0)
-batch-ready T h q =
+-- the walks of a batch on sound tables
+pub walks-ready : (T : Tables) → sound T ≡ true → (t : ℕ) → Walkable (T .layers) (youngest (T .threads) t)
+walks-ready T h = walks T (facts T h)
+
+-- it starts with no row filled
+pub batch-ready : (T : Tables) → sound T ≡ true → {top : ℕ} {orders : List ℕ} → top ≡ topOf (T .layers) → OrdersTo (T .layers) (T .threads) orders maxThreads
+    → BatchReady (T .entries) (T .layers) (T .pool) (T .threads) orders top (replicate (maxLayers * maxEntries) 0) (replicate maxEntries 0)
+batch-ready T h q o =
     let S = facts T h in
-    record { rows-ready = rows-ready T S; walks = walks T S; highest = q; kept = rows-none (T .entries) (T .layers) (T .pool) }
+    record { rows-ready = rows-ready T S; long = S .lengths .threads; walks = walks T S; ordered = o; highest = q; kept = rows-none (T .entries) (T .layers) (T .pool) }

@@ -509,7 +509,7 @@ pub extern "C" fn skein_link(
 ) -> u64
     ensures { λ answer. ⌜ Tells answer (after system entries rulesets layers pool threads names) (now (report .entry)) (now (report .exit)) (linkNamed (before system entries rulesets layers pool threads names) t s d (now (name .entry))) ⌝ }
 {
-    let reply = syscalls_tree::link(
+    let reply = syscalls_moves::link(
         system,
         entries,
         rulesets,
@@ -543,7 +543,7 @@ pub extern "C" fn skein_rename(
 ) -> u64
     ensures { λ answer. ⌜ Tells answer (after system entries rulesets layers pool threads names) (now (report .entry)) (now (report .exit)) (renameNamed (before system entries rulesets layers pool threads names) t s d (now (name .entry))) ⌝ }
 {
-    let reply = syscalls_tree::rename(
+    let reply = syscalls_moves::rename(
         system,
         entries,
         rulesets,
@@ -577,7 +577,7 @@ pub extern "C" fn skein_exchange(
 ) -> u64
     ensures { λ answer. ⌜ Tells answer (after system entries rulesets layers pool threads names) (now (report .entry)) (now (report .exit)) (exchangeNamed (before system entries rulesets layers pool threads names) t s d x) ⌝ }
 {
-    let reply = syscalls_tree::exchange(
+    let reply = syscalls_moves::exchange(
         system,
         entries,
         rulesets,

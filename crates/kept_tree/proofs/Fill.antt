@@ -21,7 +21,7 @@ use Rattle.tables.specs.Tables.{Tables, entryWidth, counter, kind, parent, obje
 use Rattle.tables.specs.Outcome.{outcome}
 use Rattle.sound_tree.proofs.Facts.{Tree}
 use Rattle.sound.specs.Sound.{sound}
-use Rattle.sound.proofs.Facts.{facts}
+use Rattle.sound.proofs.Facts.{Sound, facts}
 use Rattle.sound.proofs.Calls.{kept-call}
 use Rattle.fs.specs.Move.{verdict}
 use Rattle.tree.specs.Entries.{freeEntry, unknownKind, putEntry, withEntries}
@@ -125,34 +125,37 @@ pub free-entry : (es : List ℕ) → freeEntry es < maxEntries → live es (free
 unfolding freeEntry
 free-entry es h = not-true _ (first-passes (λ e. not (live es e)) maxEntries h)
 
--- ---- create
+-- ---- create: what it does to sound tables, whoever may make the call
+module _ (T : Tables) (S : Sound T) (d k : ℕ) (home : isDir (T .entries) d ≡ true) (kn : unknownKind k ≡ false) (small : freeEntry (T .entries) < maxEntries)
+    (below : counter (T .system) < maxCounter) where
+  pub kept-create : sound (treeCreated T d k) ≡ true
+  unfolding treeCreated unknownKind
+  kept-create =
+      let es = T .entries in
+      let n = freeEntry es in
+      let c = counter (T .system) in
+      let sys = set (T .system) 1 (c + 1) in
+      let width = S .lengths .system in
+      let known : k ≤ lastKind = ltb-false lastKind k (or-r (eqb k 0) (ltb lastKind k) kn) in
+      let now : counter sys ≡ c + 1 = getD-set-same (T .system) 1 (c + 1) 0 (omega arith) in
+      let grow : c ≤ counter sys = omega arith in
+      let numbered : c < counter sys = omega arith in
+      let free = free-entry es small in
+      let some = eqb-false k 0 (or-l (eqb k 0) (ltb lastKind k) kn) in
+      let same : (f : ℕ) → live es f ≡ true → object es f ≡ c → (kind es f ≡ k) × (k ≡ directory → ⊥) = λ f a q. absurd (let b = S .tree .objects f a in omega arith) in
+      kept-tables T S sys (putEntry es n k d c) (length-set (T .system) 1 (c + 1) ∙ width)
+      (getD-set-other (T .system) 1 0 (c + 1) 0 (omega arith)) (getD-set-other (T .system) 1 2 (c + 1) 0 (omega arith)) (getD-set-other (T .system) 1 3 (c + 1) 0 (omega arith))
+      grow (omega arith)
+      (fill-tree es c (counter sys) (S .tree) n k d c small free home some known grow numbered same)
+      (fill-files es c (counter sys) (S .tree) n k d c small free home some known grow numbered same (λ b. absurd (omega arith)))
+
 pub kept-created : (T : Tables) (t d k : ℕ) → sound T ≡ true → sound (treeCreate T t d k .left) ≡ true
-unfolding treeCreate treeCreated treeCreateChecks createShape createVerdict createLater unknownKind
+unfolding treeCreate treeCreateChecks createShape createVerdict createLater
 kept-created T t d k h = kept-call T (treeCreateChecks T t d k) (outcome (Done (freeEntry (T .entries))) (treeCreated T d k)) (λ z.
-    let es = T .entries in
-    let n = freeEntry es in
-    let c = counter (T .system) in
-    let sys = set (T .system) 1 (c + 1) in
-    let S = facts T h in
-    let width = S .lengths .system in
     let p = passed (treeCreateChecks T t d k) z in
-    let home = not-false (isDir es d) (p .1 .1 .0) in
-    let kn = p .1 .1 .1 .0 in
     let l = p .1 .1 .1 .1 .1 in
-    let small = ltb-true n maxEntries (not-false (ltb n maxEntries) (l .0)) in
-    let below : c < maxCounter = leb-false maxCounter c (l .1 .0) in
-    let known : k ≤ lastKind = ltb-false lastKind k (or-r (eqb k 0) (ltb lastKind k) kn) in
-    let now : counter sys ≡ c + 1 = getD-set-same (T .system) 1 (c + 1) 0 (omega arith) in
-    let grow : c ≤ counter sys = omega arith in
-    let numbered : c < counter sys = omega arith in
-    let free = free-entry es small in
-    let some = eqb-false k 0 (or-l (eqb k 0) (ltb lastKind k) kn) in
-    let same : (f : ℕ) → live es f ≡ true → object es f ≡ c → (kind es f ≡ k) × (k ≡ directory → ⊥) = λ f a q. absurd (let b = S .tree .objects f a in omega arith) in
-    kept-tables T S sys (putEntry es n k d c) (length-set (T .system) 1 (c + 1) ∙ width)
-    (getD-set-other (T .system) 1 0 (c + 1) 0 (omega arith)) (getD-set-other (T .system) 1 2 (c + 1) 0 (omega arith)) (getD-set-other (T .system) 1 3 (c + 1) 0 (omega arith))
-    grow (omega arith)
-    (fill-tree es c (counter sys) (S .tree) n k d c small free home some known grow numbered same)
-    (fill-files es c (counter sys) (S .tree) n k d c small free home some known grow numbered same (λ b. absurd (omega arith)))) h
+    kept-create T (facts T h) d k (not-false _ (p .1 .1 .0)) (p .1 .1 .1 .0) (ltb-true (freeEntry (T .entries)) maxEntries (not-false _ (l .0)))
+    (leb-false maxCounter (counter (T .system)) (l .1 .0))) h
 
 -- ---- link
 pub live-some : (es : List ℕ) (e : ℕ) → live es e ≡ true → kind es e ≡ 0 → ⊥
@@ -163,24 +166,28 @@ pub no-dir : (es : List ℕ) (e : ℕ) → isDir es e ≡ false → kind es e �
 unfolding isDir
 no-dir es e q = eqb-false (kind es e) directory q
 
+module _ (T : Tables) (S : Sound T) (s d : ℕ) (source : live (T .entries) s ≡ true) (home : isDir (T .entries) d ≡ true) (file : isDir (T .entries) s ≡ false)
+    (small : freeEntry (T .entries) < maxEntries) where
+  pub kept-link : sound (withEntries T (linked (T .entries) s d)) ≡ true
+  unfolding linked
+  kept-link =
+      let es = T .entries in
+      let n = freeEntry es in
+      let c = counter (T .system) in
+      let Z = S .tree in
+      let free = free-entry es small in
+      let same : (f : ℕ) → live es f ≡ true → object es f ≡ object es s → (kind es f ≡ kind es s) × (kind es s ≡ directory → ⊥) =
+      λ f a o. (Z .agreed .kinds-agree f s a source o, no-dir es s file) in
+      kept-tables T S (T .system) (linked es s d) (S .lengths .system) refl refl refl (le-refl c) (S .system .counter-high)
+      (fill-tree es c c Z n (kind es s) d (object es s) small free home (live-some es s source) (Z .kinds s source) (le-refl c) (Z .objects s source) same)
+      (fill-files es c c Z n (kind es s) d (object es s) small free home (live-some es s source) (Z .kinds s source) (le-refl c) (Z .objects s source) same
+      (λ b. (s, source, file, refl)))
+
 pub kept-linked : (T : Tables) (t s d : ℕ) → sound T ≡ true → sound (treeLink T t s d .left) ≡ true
-unfolding treeLink linked linkChecks linkShape linkVerdict linkLater verdict
+unfolding treeLink linkChecks linkShape linkVerdict linkLater verdict
 kept-linked T t s d h = kept-call T (linkChecks T t s d) (outcome (Done (freeEntry (T .entries))) (withEntries T (linked (T .entries) s d))) (λ z.
     let es = T .entries in
-    let n = freeEntry es in
-    let c = counter (T .system) in
-    let S = facts T h in
-    let Z = S .tree in
     let p = passed (linkChecks T t s d) z in
-    let source = not-false (live es s) (p .1 .0) in
     let q = p .1 .1 .1 .1 in
-    let home = not-false (isDir es d) (q .0) in
-    let file = q .1 .0 in
-    let small = ltb-true n maxEntries (not-false (ltb n maxEntries) (q .1 .1 .1 .1 .0)) in
-    let free = free-entry es small in
-    let same : (f : ℕ) → live es f ≡ true → object es f ≡ object es s → (kind es f ≡ kind es s) × (kind es s ≡ directory → ⊥) =
-    λ f a o. (Z .agreed .kinds-agree f s a source o, no-dir es s file) in
-    kept-tables T S (T .system) (linked es s d) (S .lengths .system) refl refl refl (le-refl c) (S .system .counter-high)
-    (fill-tree es c c Z n (kind es s) d (object es s) small free home (live-some es s source) (Z .kinds s source) (le-refl c) (Z .objects s source) same)
-    (fill-files es c c Z n (kind es s) d (object es s) small free home (live-some es s source) (Z .kinds s source) (le-refl c) (Z .objects s source) same
-    (λ b. (s, source, file, refl)))) h
+    kept-link T (facts T h) s d (not-false (live es s) (p .1 .0)) (not-false (isDir es d) (q .0)) (q .1 .0)
+    (ltb-true (freeEntry es) maxEntries (not-false _ (q .1 .1 .1 .1 .0)))) h

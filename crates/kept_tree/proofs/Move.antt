@@ -76,7 +76,7 @@ module _ (T : Tables) (S : Sound T) (s d : ℕ) (source : live (T .entries) s �
       (λ q. none y there (child ∙ sym (moved-to T S s d source nz home outside x (eqb-true x s q)) ∙ p))
       (λ q. none x (sym (live-same es (putParent es s d) x (kind-move es s d x)) ∙ l) (sym (parent-stay es s d x (eqb-false x s q)) ∙ p))
 
-  kept-replace : sound (withEntries T (freeRow (putParent (T .entries) s d) y)) ≡ true
+  pub kept-replace : sound (withEntries T (freeRow (putParent (T .entries) s d) y)) ≡ true
   kept-replace =
       let es = T .entries in
       let new = putParent es s d in
@@ -121,27 +121,31 @@ kept-renamed T t s d (Entry y) h = kept-call T (renameChecks T t s d (Entry y)) 
     rw o (kept-replace T S s d source nz home outside y there ny child (childless es _ (S .tree) y ny (r .1 .1 .0))))) h
 
 -- ---- exchange
+module _ (T : Tables) (h : sound T ≡ true) (s d x : ℕ) (source : live (T .entries) s ≡ true) (other : live (T .entries) x ≡ true) (nz : 0 ≡ s → ⊥) (nx : 0 ≡ x → ⊥)
+    (home : isDir (T .entries) d ≡ true) (below : isAbove (T .entries) s d ≡ false) (apart : isAbove (T .entries) x (parent (T .entries) s) ≡ false) where
+  pub kept-swap : sound (withEntries T (swapped (T .entries) s d x)) ≡ true
+  unfolding swapped
+  kept-swap =
+      let es = T .entries in
+      let new = putParent es s d in
+      let U = withEntries T new in
+      let to = parent es s in
+      let S = facts T h in
+      let back = S .tree .in-dir s source in
+      let away = not-above T S x to nx back apart in
+      let up-same : (k : ℕ) → up new k to ≡ up es k to = λ k. same-climb es new k to (λ j. parent-stay es s d (up es j to) (own-parent es _ (S .tree) s source nz j)) in
+      split (sameObject es s x)
+      (λ o. rw o h)
+      (λ o. rw o
+      (kept-move U (facts U (kept-move T S s d source nz home (not-above T S s d nz home below))) x to
+      (live-same es new x (kind-move es s d x) ∙ other) nx (dir-same es new to to (kind-move es s d to) ∙ back)
+      (λ k e. away k (sym (up-same k) ∙ e))))
+
 pub kept-exchanged : (T : Tables) (t s d x : ℕ) → sound T ≡ true → sound (treeExchange T t s d x .left) ≡ true
-unfolding treeExchange exchangeChecks exchangeNames exchangeShape exchangeVerdict verdict swapped
+unfolding treeExchange exchangeChecks exchangeNames exchangeShape exchangeVerdict verdict
 kept-exchanged T t s d x h = kept-call T (exchangeChecks T t s d x) (outcome (Done 0) (withEntries T (swapped (T .entries) s d x))) (λ z.
     let es = T .entries in
-    let new = putParent es s d in
-    let U = withEntries T new in
-    let to = parent es s in
-    let S = facts T h in
     let p = passed (exchangeChecks T t s d x) z in
-    let source = not-false (live es s) (p .1 .0) in
-    let other = not-false (live es x) (p .1 .1 .1 .0) in
     let q = p .1 .1 .1 .1 in
-    let nz = nonzero s (q .0) in
-    let nx = nonzero x (q .1 .0) in
-    let home = not-false (isDir es d) (q .1 .1 .0) in
-    let back = S .tree .in-dir s source in
-    let away = not-above T S x to nx back (q .1 .1 .1 .1 .1 .0) in
-    let up-same : (k : ℕ) → up new k to ≡ up es k to = λ k. same-climb es new k to (λ j. parent-stay es s d (up es j to) (own-parent es _ (S .tree) s source nz j)) in
-    split (sameObject es s x)
-    (λ o. rw o h)
-    (λ o. rw o
-    (kept-move U (facts U (kept-move T S s d source nz home (not-above T S s d nz home (q .1 .1 .1 .1 .0)))) x to
-    (live-same es new x (kind-move es s d x) ∙ other) nx (dir-same es new to to (kind-move es s d to) ∙ back)
-    (λ k e. away k (sym (up-same k) ∙ e))))) h
+    kept-swap T h s d x (not-false (live es s) (p .1 .0)) (not-false (live es x) (p .1 .1 .1 .0)) (nonzero s (q .0)) (nonzero x (q .1 .0))
+    (not-false (isDir es d) (q .1 .1 .0)) (q .1 .1 .1 .1 .0) (q .1 .1 .1 .1 .1 .0)) h

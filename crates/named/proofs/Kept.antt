@@ -29,12 +29,12 @@ use Rattle.names.proofs.Facts.{Names, Name, names, names-of}
 use Rattle.names.proofs.Bearer.{bearer-cases}
 use Rattle.named.specs.Named.{Named, namedSound, NamedOutcome}
 use Rattle.named.specs.Tree.{createTarget, newName, createBefore, newNames, createNamedChecks, createNamed, removeNamed, linkTarget, linkBefore, linkNamedChecks, linkNamed, replacedBy, renameBefore, renameNamedChecks, renamedNames, renameNamed, swappedNames, exchangeNamed}
-use Rattle.named.specs.Calls.{leavesTree, NamedCall, lifted, create, remove, link, rename, exchange, lookup, turn, batch, apply, outcomeNamed, afterNamed, allNamed}
+use Rattle.named.specs.Calls.{leavesTree, NamedCall, lifted, create, remove, link, rename, exchange, lookup, turn, batch, apply, write, outcomeNamed, afterNamed, allNamed}
 use Rattle.named.proofs.Made.{core-sound, names-sound, Way, wayNamed, way-cases, Made}
 use Rattle.named.proofs.Listed.{createWay, create-name, removeWay, linkWay, link-name, renameWay, rename-name, exchangeWay}
 use Rattle.named.proofs.Leaves.{leaves}
 use Rattle.named.proofs.Applied.{apply-made, apply-entries}
-use Rattle.named.proofs.Translate.{translate, follows, lifted-outcome, lookup-left, turn-left, batch-left}
+use Rattle.named.proofs.Translate.{translate, follows, lifted-outcome, lookup-left, turn-left, batch-left, write-left}
 use Rattle.named.proofs.Renamed.{names-filled, names-cleared, names-moved, names-replaced, names-swapped}
 
 -- the names of N are sound
@@ -99,7 +99,7 @@ module _ (N : Named) (h : namedSound N ≡ true) where
       names-of _ _ (names-cleared es ns _ tree old e (not-false _ (shape .1 .0)))
 
   -- the source and its new name, whatever else is asked
-  right-moved : (s d : ℕ) (n : List ℕ) → live es s ≡ true → (s ≡ 0 → ⊥) → Name n → namesSound (moved es s d (bearer es ns d n)) (renamedNames es ns s n (bearer es ns d n)) ≡ true
+  pub right-moved : (s d : ℕ) (n : List ℕ) → live es s ≡ true → (s ≡ 0 → ⊥) → Name n → namesSound (moved es s d (bearer es ns d n)) (renamedNames es ns s n (bearer es ns d n)) ≡ true
   unfolding moved dropped renamedNames dropName replacing
   right-moved s d n source nz ok = bearer-cases es ns d n
       (λ b t. rw b (names-of _ _ (names-moved es ns _ tree old s d n source nz ok t)))
@@ -136,6 +136,7 @@ names-kept N (exchange t s d x) h = right-way N (exchangeWay N t s d x) h (right
 names-kept N (lookup p) h = rw (lookup-left N p) (names-sound N h)
 names-kept N (turn Q) h = rw (turn-left N Q) (names-sound N h)
 names-kept N (batch rs ns xs) h = rw (batch-left N rs ns xs) (names-sound N h)
+names-kept N (write r name out) h = rw (write-left N r name out) (names-sound N h)
 names-kept N (apply stock site name) h = rw (apply-entries N stock site name, apply-made N stock site name .same-names) (names-sound N h)
 
 -- the six tables by document 01's theorem, through the translation

@@ -32,14 +32,16 @@ use Rattle.named.specs.Named.{Named, namedSound, NamedOutcome, namedCall
 use Rattle.named.specs.Tree.{createNamedChecks, createNamed, removeNamed, linkNamedChecks, linkNamed, renameNamedChecks, renameNamed, exchangeNamed}
 use Rattle.named.specs.Queue.{answerOf, turnNamed}
 use Rattle.named.specs.Batch.{requestWidth, askedCell, knownSort, batchAnswerWidth, answersTo, requestCount, batchChecks, Batched, batched, batchOf, batchNamed}
+use Rattle.policy_write.specs.File.{writeForm, writeRules, writeRoom, writeChecks}
+use Rattle.named.specs.Write.{writeNamed}
 use Rattle.named.specs.Policy.{lookupNamed, onNamed, foundChecks, applyNamed}
-use Rattle.named.specs.Calls.{leavesTree, NamedCall, lifted, create, remove, link, rename, exchange, lookup, turn, batch, apply, outcomeNamed, replyNamed, onCore}
+use Rattle.named.specs.Calls.{leavesTree, NamedCall, lifted, create, remove, link, rename, exchange, lookup, turn, batch, apply, write, outcomeNamed, replyNamed, onCore}
 use Rattle.named.specs.Layer.{faulty, refusalsNamed, PassedOn, LayerNamed}
 use Rattle.named.proofs.Made.{lift-unnamed, lift-goes, omits, omits-first, named-cases, NoLayer, way-number, way-told}
 use Rattle.named.proofs.Listed.{createWay, removeWay, linkWay, renameWay, exchangeWay}
 use Rattle.named.proofs.Leaves.{OnRulesets, creates, closes, adds-path, adds-port}
 use Rattle.named.proofs.Applied.{found-cases, by-calls}
-use Rattle.named.proofs.Translate.{OfTree, Seen, is-lifted, of-tree, is-lookup, is-turn, is-batch, is-apply, seen, lifted-is, lifted-outcome}
+use Rattle.named.proofs.Translate.{OfTree, Seen, is-lifted, of-tree, is-lookup, is-turn, is-batch, is-apply, is-write, seen, lifted-is, lifted-outcome}
 
 -- ---- a batch is refused with EINVAL, or it is done
 einval-only : (rs xs : List ℕ) → (first (batchChecks rs xs) ≡ 0) ⊎ (first (batchChecks rs xs) ≡ EINVAL)
@@ -157,6 +159,15 @@ module _ (N : Named) where
       (λ h z. inr (found-no-layer stock site name z))
       (λ h z. by-calls (λ M. Unit {0}) Looked (λ M c v p. (tt, call-told M v)) (λ M p q. looked M p) (λ n. inl (n, refl)) N _ tt .1)
 
+  write-told : (r : ℕ) (name out : List ℕ) → Looked (replyNamed N (write r name out))
+  unfolding outcomeNamed writeNamed writeChecks writeForm writeRules writeRoom omits
+  write-told r name out =
+      let cs = writeChecks (N .core) (N .names) r name out in
+      named-cases N cs _ (λ o. Looked (o .reply))
+      (λ h. inr (no-layer-of EIO (λ z. omega arith) (λ z. omega arith)))
+      (λ h z. inr (no-layer-of (first cs) (omits-first EACCES cs refl (λ z. omega arith)) (omits-first EXDEV cs refl (λ z. omega arith))))
+      (λ h z. inl (_, refl))
+
   told-seen : {c : NamedCall} → Seen N c → Told N c
   unfolding outcomeNamed
   told-seen (is-lifted b q) = told-lifted b q
@@ -165,6 +176,7 @@ module _ (N : Named) where
   told-seen (is-turn Q) = either (served Q) (λ d. succeeds (d .0) (d .1)) no-layer
   told-seen (is-batch rs ns xs) = either (batch-told rs ns xs) (λ d. succeeds (d .0) (d .1)) no-layer
   told-seen (is-apply stock site name) = either (apply-told stock site name) (λ d. succeeds (d .0) (d .1)) no-layer
+  told-seen (is-write r name out) = either (write-told r name out) (λ d. succeeds (d .0) (d .1)) no-layer
 
 -- ---- the number is that of the first refusal
 found-past : (stock site name : List ℕ) (ys : List Check) → first (foundChecks stock site name) ≡ 0 → first ys ≡ first (foundChecks stock site name ++ ys)
@@ -208,6 +220,11 @@ module _ (N : Named) where
   unfolding outcomeNamed applyNamed faulty refusalsNamed
   number-apply stock site name = number-then (foundChecks stock site name) _ (found-past stock site name)
 
+  number-write : (r : ℕ) (name out : List ℕ) → errorOf (replyNamed N (write r name out)) ≡ full (write r name out)
+  unfolding outcomeNamed writeNamed first faulty refusalsNamed
+  number-write r name out =
+      named-cases N (writeChecks (N .core) (N .names) r name out) _ (λ o. errorOf (o .reply) ≡ full (write r name out)) (λ h. rw h refl) (λ h z. rw h refl) (λ h z. rw h (sym z))
+
   number-turn : (Q : Queue) → errorOf (replyNamed N (turn Q)) ≡ full (turn Q)
   unfolding outcomeNamed turnNamed servedReply first faulty refusalsNamed
   number-turn Q =
@@ -230,6 +247,7 @@ module _ (N : Named) where
   number (turn Q) = number-turn Q
   number (batch rs ns xs) = number-batch rs ns xs
   number (apply stock site name) = number-apply stock site name
+  number (write r name out) = number-write r name out
 
 pub layer-named : LayerNamed
 layer-named = record {

@@ -32,7 +32,7 @@ use Rattle.named.proofs.Orders.{create-rest, link-rest, rename-rest}
 use Rattle.named.proofs.Made.{omits, early, early-none, Way}
 
 -- ---- a name that passed
-name-ok : (n : List ℕ) → first (nameChecks n) ≡ 0 → Name n
+pub name-ok : (n : List ℕ) → first (nameChecks n) ≡ 0 → Name n
 unfolding nameChecks
 name-ok n z = let p = passed (nameChecks n) z in record { short = ltb-false maxName _ (p .0); fine = p .1 .0 }
 

@@ -20,8 +20,10 @@ use Rattle.queue.specs.Queue.{Queue}
 use Rattle.named.specs.Named.{Named, withNames, NamedOutcome, namedOutcome, lift}
 use Rattle.named.specs.Tree.{createNamedChecks, createNamed, removeNamed, linkNamedChecks, linkNamed, renameNamedChecks, renameNamed, exchangeNamed}
 use Rattle.named.specs.Queue.{turnNamed}
+use Rattle.policy_write.specs.File.{writeChecks}
 use Rattle.named.specs.Batch.{batchNamed}
-use Rattle.named.specs.Calls.{leavesTree, NamedCall, lifted, create, remove, link, rename, exchange, lookup, turn, batch, apply, outcomeNamed, afterNamed, replyNamed, callerNamed, wouldFreeNamed, freesNamed, wouldEndNamed, endsNamed, onCore}
+use Rattle.named.specs.Write.{writeNamed}
+use Rattle.named.specs.Calls.{leavesTree, NamedCall, lifted, create, remove, link, rename, exchange, lookup, turn, batch, apply, write, outcomeNamed, afterNamed, replyNamed, callerNamed, wouldFreeNamed, freesNamed, wouldEndNamed, endsNamed, onCore}
 use Rattle.named.specs.Claim.{ChangesTree}
 use Rattle.named.proofs.Made.{core-sound, lift-unnamed, lift-goes, named-cases, Way, wayNamed, wayCore, way-goes, core-goes, made, refused-left}
 use Rattle.named.proofs.Listed.{createWay, removeWay, linkWay, renameWay, exchangeWay}
@@ -45,6 +47,7 @@ pub data Seen (N : Named) : NamedCall → Type 0 where
   is-turn : (Q : Queue) → Seen N (turn Q)
   is-batch : (rs ns xs : List ℕ) → Seen N (batch rs ns xs)
   is-apply : (stock site name : List ℕ) → Seen N (apply stock site name)
+  is-write : (r : ℕ) (name out : List ℕ) → Seen N (write r name out)
 
 pub seen : (N : Named) (c : NamedCall) → Seen N c
 unfolding outcomeNamed outcomeOf onCore callerNamed caller wouldFreeNamed wouldFree wouldEnd
@@ -65,6 +68,7 @@ seen N (lookup p) = is-lookup p
 seen N (turn Q) = is-turn Q
 seen N (batch rs ns xs) = is-batch rs ns xs
 seen N (apply stock site name) = is-apply stock site name
+seen N (write r name out) = is-write r name out
 
 -- ---- the translation: a lifted call where the names are sound, a call of the tree where it is not refused, the calls that an application makes
 unfoldable pub turned : (N : Named) (c : NamedCall) → Seen N c → List Call
@@ -74,6 +78,7 @@ turned N c (is-lookup p) = []
 turned N c (is-turn Q) = []
 turned N c (is-batch rs ns xs) = []
 turned N c (is-apply stock site name) = apply-made N stock site name .calls
+turned N c (is-write r name out) = []
 
 unfoldable pub translate : Named → NamedCall → List Call
 translate N c = turned N c (seen N c)
@@ -153,6 +158,10 @@ pub batch-left : (N : Named) (rs ns xs : List ℕ) → afterNamed N (batch rs ns
 unfolding outcomeNamed batchNamed
 batch-left N rs ns xs = refl
 
+pub write-left : (N : Named) (r : ℕ) (name out : List ℕ) → afterNamed N (write r name out) ≡ N
+unfolding outcomeNamed writeNamed
+write-left N r name out = named-cases N (writeChecks (N .core) (N .names) r name out) _ (λ o. o .left ≡ N) (λ h. refl) (λ h z. refl) (λ h z. refl)
+
 follows-apply : (N : Named) (stock site name : List ℕ) → Follows N (apply stock site name) (apply-made N stock site name .calls)
 unfolding outcomeNamed
 follows-apply N stock site name = let B = apply-made N stock site name in follows-list N (apply stock site name) (B .all) (B .same-core)
@@ -166,6 +175,7 @@ follows-seen {N} (is-lookup p) = follows-none N (lookup p) (ap (λ (M : Named). 
 follows-seen {N} (is-turn Q) = follows-none N (turn Q) (ap (λ (M : Named). M .core) (turn-left N Q))
 follows-seen {N} (is-batch rs ns xs) = follows-none N (batch rs ns xs) (ap (λ (M : Named). M .core) (batch-left N rs ns xs))
 follows-seen {N} (is-apply stock site name) = follows-apply N stock site name
+follows-seen {N} (is-write r name out) = follows-none N (write r name out) (ap (λ (M : Named). M .core) (write-left N r name out))
 
 pub follows : (N : Named) (c : NamedCall) → Follows N c (translate N c)
 unfolding translate

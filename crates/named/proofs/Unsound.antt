@@ -34,9 +34,10 @@ use Rattle.policy.specs.Find as files
 use Rattle.queue.specs.Queue.{Queue, queueSound}
 use Rattle.named.specs.Named.{Named, namedSound, NamedOutcome}
 use Rattle.named.specs.Tree.{createTarget, newName, createBefore, createNamedChecks, linkTarget, linkBefore, linkNamedChecks, renameBefore, renameNamedChecks}
+use Rattle.policy_write.specs.File.{writeForm, writeRules, writeRoom, writeChecks}
 use Rattle.named.specs.Batch.{batchChecks}
 use Rattle.named.specs.Policy.{lookupNamed, onNamed, applied, foundChecks}
-use Rattle.named.specs.Calls.{NamedCall, lifted, create, remove, link, rename, exchange, lookup, turn, batch, apply, outcomeNamed, replyNamed}
+use Rattle.named.specs.Calls.{NamedCall, lifted, create, remove, link, rename, exchange, lookup, turn, batch, apply, write, outcomeNamed, replyNamed}
 use Rattle.named.specs.Layer.{faulty, refusalsNamed}
 use Rattle.named.proofs.Made.{core-sound, names-sound, lift-goes, omits, omits-first, named-cases}
 use Rattle.named.proofs.Leaves.{OnRulesets, leaving}
@@ -100,7 +101,7 @@ apply-omits N stock site name h = found-omits stock site name _
 
 named-omits : (N : Named) (c : NamedCall) → faulty N c ≡ false → omits EIO (refusalsNamed N c) ≡ true
 unfolding faulty omits refusalsOf refusalsNamed createNamedChecks createBefore createTarget newName nameChecks createVerdict createLater
-    linkNamedChecks linkBefore linkTarget linkVerdict linkLater renameNamedChecks renameBefore renameVerdict renameLater verdict pathChecks batchChecks
+    linkNamedChecks linkBefore linkTarget linkVerdict linkLater renameNamedChecks renameBefore renameVerdict renameLater verdict pathChecks batchChecks writeChecks writeForm writeRules writeRoom
 named-omits N (lifted c q) f = settled-omits (N .core) c
 named-omits N (create t d k n) f = refl
 named-omits N (remove t e) f = settled-omits (N .core) (Call.remove t e)
@@ -111,6 +112,7 @@ named-omits N (lookup p) f = rw (ne-eqb (errorOf (found (N .core .entries) (N .n
 named-omits N (turn Q) f = refl
 named-omits N (batch rs ns xs) f = refl
 named-omits N (apply stock site name) f = apply-omits N stock site name (not-false _ f)
+named-omits N (write r name out) f = refl
 
 -- an EIO is of what is faulty
 eio-faulty : (N : Named) (c : NamedCall) → errorOf (replyNamed N c) ≡ EIO → faulty N c ≡ true
@@ -135,4 +137,5 @@ not-unsound N c h z = of-turn c (eio-faulty N c z)
     of-turn (lookup p) q = sound-tables q
     of-turn (batch rs ns xs) q = clash false q refl
     of-turn (apply stock site name) q = sound-tables q
+    of-turn (write r name out) q = sound-tables q
     of-turn (turn Q) q = (Q, refl, not-true (queueSound Q) q)

@@ -13,6 +13,7 @@ use Rattle.named.specs.Tree.{createNamed, removeNamed, linkNamed, replac
 use Rattle.named.specs.Queue.{turnNamed}
 use Rattle.named.specs.Batch.{batchNamed}
 use Rattle.named.specs.Policy.{lookupNamed, applyNamed}
+use Rattle.named.specs.Write.{writeNamed}
 
 -- the calls of document 01 that neither read nor write names: all but those that change the tree
 abbrev pub leavesTree : Call → Bool
@@ -56,6 +57,8 @@ pub data NamedCall : Type 0 where
   batch : List ℕ → List ℕ → List ℕ → NamedCall
   -- stock, site, name
   apply : List ℕ → List ℕ → List ℕ → NamedCall
+  -- ruleset, name, output
+  write : ℕ → List ℕ → List ℕ → NamedCall
 
 -- what a call answers and leaves
 unfoldable pub outcomeNamed : Named → NamedCall → NamedOutcome
@@ -69,6 +72,7 @@ outcomeNamed N (lookup p) = lookupNamed N p
 outcomeNamed N (turn Q) = turnNamed N Q
 outcomeNamed N (batch rs ns xs) = batchNamed N rs ns xs
 outcomeNamed N (apply stock site name) = applyNamed N stock site name
+outcomeNamed N (write r name out) = writeNamed N r name out
 
 abbrev pub afterNamed : Named → NamedCall → Named
 afterNamed N c = outcomeNamed N c .left
@@ -93,6 +97,7 @@ callerNamed (lookup p) = 0
 callerNamed (turn Q) = 0
 callerNamed (batch rs ns xs) = 0
 callerNamed (apply stock site name) = 0
+callerNamed (write r name out) = 0
 
 -- the entries that a call frees if it is not refused: "by a remove of it or a rename that replaced it"
 unfoldable pub wouldFreeNamed : Named → NamedCall → ℕ → Bool
@@ -106,6 +111,7 @@ wouldFreeNamed N (lookup p) e = false
 wouldFreeNamed N (turn Q) e = false
 wouldFreeNamed N (batch rs ns xs) e = false
 wouldFreeNamed N (apply stock site name) e = false
+wouldFreeNamed N (write r name out) e = false
 
 unfoldable pub freesNamed : Named → NamedCall → ℕ → Bool
 freesNamed N c e = isDone (replyNamed N c) && wouldFreeNamed N c e
@@ -122,11 +128,12 @@ wouldEndNamed (lookup p) t = false
 wouldEndNamed (turn Q) t = false
 wouldEndNamed (batch rs ns xs) t = false
 wouldEndNamed (apply stock site name) t = false
+wouldEndNamed (write r name out) t = false
 
 unfoldable pub endsNamed : Named → NamedCall → ℕ → Bool
 endsNamed N c t = isDone (replyNamed N c) && wouldEndNamed c t
 
--- document 01's call on the six tables that a call comes to; a lookup, a turn and a batch come to none, and an application makes several
+-- document 01's call on the six tables that a call comes to; a lookup, a turn, a batch and a write come to none, and an application makes several
 unfoldable pub onCore : Named → NamedCall → List Call
 onCore N (lifted c q) = c ∷ []
 onCore N (create t d k n) = Call.create t d k ∷ []
@@ -138,3 +145,4 @@ onCore N (lookup p) = []
 onCore N (turn Q) = []
 onCore N (batch rs ns xs) = []
 onCore N (apply stock site name) = []
+onCore N (write r name out) = []

@@ -1,2 +1,2 @@
--- What the passed tests of link and rename tell, and what they leave.
+-- What the passed tests of a rename tell, and what they leave.
 pub mod Moving

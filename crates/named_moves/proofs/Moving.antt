@@ -1,5 +1,5 @@
--- What the passed tests of link and rename tell, and what they leave. Assumes nothing.
-use mathlib.Core.Path.{_≡_, refl, sym, _∙_}
+-- What the passed tests of a rename tell, and what they leave. Assumes nothing.
+use mathlib.Core.Path.{_≡_}
 use mathlib.Core.Bool.{Bool, true, false}
 use mathlib.Core.List.{List}
 use Prim.Native.Nat.{ℕ, _≤_}
@@ -12,14 +12,13 @@ use Rattle.tables.specs.Tables.{Tables}
 use Rattle.tables.proofs.Blames.{named-passed}
 use Rattle.fs.specs.Blame.{moveReply, namingMove}
 use Rattle.tree.specs.declared.Replaced.{Replaced}
-use Rattle.tree.specs.Entries.{freeEntry, sameObject, withEntries}
-use Rattle.tree.specs.Moves.{linkMove, renameMove}
-use Rattle.tree.specs.Link.{linked}
+use Rattle.tree.specs.Entries.{withEntries}
+use Rattle.tree.specs.Moves.{renameMove}
 use Rattle.tree.specs.Rename.{renameChecks, moved}
-use Rattle.names.specs.Names.{maxName, putName, bearer, swapNames}
+use Rattle.names.specs.Names.{maxName, bearer}
 use Rattle.named.specs.Named.{Named, withNames, NamedOutcome, namedOutcome, namedAnswer, judgedBy}
-use Rattle.named.specs.Tree.{linkNamedChecks, newNames, replacedBy, renameBefore, renameNamedChecks, renamedNames, swappedNames}
-use Rattle.named.proofs.Orders.{link-fits, rename-agrees, rename-fits}
+use Rattle.named.specs.Tree.{replacedBy, renameBefore, renameNamedChecks, renamedNames}
+use Rattle.named.proofs.Orders.{rename-agrees, rename-fits}
 use Rattle.named.proofs.Replies.{told-refused, told-done}
 
 module _ (N : Named) (t s d : ℕ) (n : List ℕ) where
@@ -28,16 +27,6 @@ module _ (N : Named) (t s d : ℕ) (n : List ℕ) where
 
   abbrev es : List ℕ
   es = N .core .entries
-
-  module _ {r : Reply} (q : r ≡ moveReply T t (linkMove es s d) (linkNamedChecks N t s d n)) {b : Bool} (h : b ≡ isRefused r) (z : b ≡ false) where
-    pub link-fit : length n ≤ maxName
-    link-fit = link-fits N t s d n (named-passed _ _ _ T (linkNamedChecks N t s d n) q h z)
-
-    pub link-done : (es′ ns′ : List ℕ) {e : ℕ} → e ≡ freeEntry es → es′ ≡ linked es s d → ns′ ≡ putName (N .names) e n
-        → namedOutcome (Done e) (withNames (withEntries T es′) ns′) ≡ judgedBy (namingMove T t (linkMove es s d))
-        (namedAnswer N (linkNamedChecks N t s d n) (namedOutcome (Done (freeEntry es)) (withNames (withEntries T (linked es s d)) (newNames es (N .names) n))))
-    unfolding newNames
-    link-done es′ ns′ f g v = rw (v, f, g) (told-done _ _ _ N (linkNamedChecks N t s d n) q _ _ h z)
 
   -- the checks over the bearer of the name
   pub bearer-agrees : {x : Replaced} → x ≡ bearer es (N .names) d n → first (renameBefore T t s d n) ≡ 0 → first (renameNamedChecks N t s d n) ≡ first (renameChecks T t s d x)
@@ -63,13 +52,3 @@ module _ (N : Named) (t s d : ℕ) (n : List ℕ) where
         → namedOutcome (Done 0) (withNames (withEntries T es′) ns′) ≡ judgedBy (namingMove T t (renameMove es s d (replacedBy N d n))) (namedAnswer N (renameNamedChecks N t s d n) (renamed (replacedBy N d n)))
     unfolding replacedBy
     rename-done es′ ns′ z f g = rw (f, g, e) (told-done _ _ _ N (renameNamedChecks N t s d n) by-bearer _ _ h z)
-
--- the names after an exchange
-module _ (es ns : List ℕ) (s x : ℕ) {b : Bool} (h : b ≡ sameObject es s x) where
-  pub names-kept : b ≡ true → ns ≡ swappedNames es ns s x
-  unfolding swappedNames
-  names-kept v = rw (sym h ∙ v) refl
-
-  pub names-swapped : b ≡ false → {ns′ : List ℕ} → ns′ ≡ swapNames ns s x → ns′ ≡ swappedNames es ns s x
-  unfolding swappedNames
-  names-swapped v k = rw (sym h ∙ v) k

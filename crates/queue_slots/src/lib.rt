@@ -83,7 +83,7 @@ fn ask<'t>(
 ) -> Answer
     ensures { λ r. ⌜ r ≡ answerOf (before system entries rulesets layers pool threads names) (request .thread) (request .entry) (request .rights) ⌝ }
 {
-    queue_turn::answer(
+    queue_answer::answer(
         system,
         entries,
         rulesets,

@@ -1,25 +1,15 @@
--- How code comes to an answer and to a turn. Assumes nothing.
+-- How code comes to a turn. Assumes nothing.
 use mathlib.Core.Path.{_≡_, sym, ap, _∙_}
 use mathlib.Core.Bool.{Bool, true, false, not}
 use Prim.Native.Nat.{ℕ, _<_, _≤_}
 use borrow.Author.Tests.{not-true, not-false, lt-ltb, le-ltb}
 use Rattle.access.specs.Errno.{EIO}
-use Rattle.access.specs.declared.errno.Reply.{Reply}
-use Rattle.codes.specs.Codes.{said}
 use Rattle.queue.specs.declared.Answer.{Answer}
 use Rattle.queue.specs.declared.Served.{Served}
 use Rattle.queue.specs.declared.Served.the-variants.{Slot, Idle, Refused}
 use Rattle.queue.specs.Queue.{Queue, queue, slots, queueSound, nextWaiting, serve, Turned, turned, turn, servedReply}
-use Rattle.fs_access.specs.Access.{accessCall, accessCount}
-use Rattle.named.specs.Named.{Named, namedOutcome, lift, liftCount}
+use Rattle.named.specs.Named.{Named, namedOutcome}
 use Rattle.named.specs.Queue.{answerOf, turnNamed}
-
--- ---- an answer, by the reply and the entries read
-pub answered-by : (N : Named) (t e m : ℕ) {r : Reply} {M : Named} {x l s n : ℕ} → namedOutcome r M ≡ lift N (accessCall (N .core) t e m)
-    → n ≡ liftCount N (accessCount (N .core) t e m) → x ≡ said r .error → l ≡ said r .layer → s ≡ said r .rights
-    → record { error = x; layer = l; rights = s; read = n } ≡ answerOf N t e m
-unfolding answerOf
-answered-by N t e m h k a b c = rw (← h, k, a, b, c)
 
 -- ---- a turn of the queue, with any answers
 module _ (f : ℕ → ℕ → ℕ → Answer) (Q : Queue) {b : Bool} (e : b ≡ queueSound Q) where

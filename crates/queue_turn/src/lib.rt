@@ -1,19 +1,15 @@
 // A turn of the queue: the next waiting slot is answered from the tables.
 use access::errno::Errno;
-use access::rights::Rights;
 use cells::row_read;
 use cells::write;
-use codes::denied_rights;
-use codes::error_number;
-use codes::named_layer;
 use queue::ANSWERED;
-use queue::Answer;
 use queue::REQUEST_WIDTH;
 use queue::SLOTS;
 use queue::Served;
 use queue::next_waiting;
 use queue::put_answer;
 use queue::queue_sound;
+use queue_answer::answer;
 ghost use mathlib.Core.Path.{_≡_};
 ghost use Rattle.queue.specs.Queue.{queue, turned, servedReply};
 ghost use Rattle.queue.specs.Queue.{serve as serveOf, turn as turnOf};
@@ -25,42 +21,6 @@ ghost use Rattle.named.specs.Queue.{answerOf, turnNamed};
 pub struct Round {
     pub said: Served,
     pub cursor: u64,
-}
-
-// What the tables answer a request.
-pub fn answer(
-    system: &[u64],
-    entries: &[u64],
-    rulesets: &[u64],
-    layers: &[u64],
-    pool: &[u64],
-    threads: &[u64],
-    names: &[u8],
-    t: u64,
-    e: u64,
-    m: u64,
-) -> Answer
-    ensures { λ r. ⌜ r ≡ answerOf (before system entries rulesets layers pool threads names) t e m ⌝ }
-{
-    let accessed = syscalls::access(
-        system,
-        entries,
-        rulesets,
-        layers,
-        pool,
-        threads,
-        names,
-        t,
-        e,
-        Rights(m),
-    );
-    let reply = accessed.reply;
-    Answer {
-        error: error_number(reply),
-        layer: named_layer(reply),
-        rights: denied_rights(reply),
-        read: accessed.read,
-    }
 }
 
 // Answers the request of a slot.

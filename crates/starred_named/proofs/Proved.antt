@@ -44,7 +44,7 @@ use Rattle.theorems.proofs.Named.{shape}
 use Rattle.names.specs.Names.{sameBytes, badBytes, nameChecks, rowAt, nameOf, putName, dropName}
 use Rattle.named.specs.Named.{Named, withNames, namedSound, NamedOutcome, namedOutcome, namedAnswer, namedCall, judgedBy, noNames, freshNamed}
 use Rattle.named.specs.Tree.{createTarget, newName, createBefore, newNames, createNamedChecks, createNamed, linkTarget, linkBefore, linkNamedChecks, linkNamed, replacedBy, renameBefore, renameNamedChecks, renamedNames, renameNamed}
-use Rattle.named.specs.Calls.{NamedCall, lifted, create, remove, link, rename, exchange, lookup, turn, batch, apply, outcomeNamed, afterNamed, allNamed}
+use Rattle.named.specs.Calls.{NamedCall, lifted, create, remove, link, rename, exchange, lookup, turn, batch, apply, write, outcomeNamed, afterNamed, allNamed}
 use Rattle.named.proofs.Made.{core-sound, names-sound, lift-goes}
 use Rattle.named.proofs.Kept.{kept}
 use Rattle.named.proofs.Fresh.{fresh-sound-named, never-unsound}
@@ -53,23 +53,23 @@ use Rattle.starred_named.proofs.Scan.{scan, takenFast, bearerFast, take
 use Rattle.starred_named.specs.Starred.{Case, cases, given, Starred}
 
 -- the checks, with the bearer of the name looked for in one pass
-unfoldable newFast : Named → ℕ → List ℕ → List Check
+unfoldable pub newFast : Named → ℕ → List ℕ → List Check
 newFast N d n = nameChecks n ++ (takenFast (N .core .entries) (N .names) d n ⇒ EEXIST ∷ [])
 
-unfoldable createFast : Named → ℕ → ℕ → ℕ → List ℕ → List Check
+unfoldable pub createFast : Named → ℕ → ℕ → ℕ → List ℕ → List Check
 createFast N t d k n =
     (createTarget (N .core .entries) (N .core .threads) t d ++ newFast N d n) ++ ((unknownKind k ⇒ EINVAL ∷ []) ++ (createVerdict (N .core) t d k ++ createLater (N .core)))
 
-unfoldable linkFast : Named → ℕ → ℕ → ℕ → List ℕ → List Check
+unfoldable pub linkFast : Named → ℕ → ℕ → ℕ → List ℕ → List Check
 linkFast N t s d n =
     (linkTarget (N .core .entries) (N .core .threads) t s d ++ newFast N d n) ++ ((isDir (N .core .entries) s ⇒ EPERM ∷ []) ++ (linkVerdict (N .core) t s d ++ linkLater (N .core)))
 
-unfoldable renameFast : Named → ℕ → ℕ → ℕ → List ℕ → Replaced → List Check
+unfoldable pub renameFast : Named → ℕ → ℕ → ℕ → List ℕ → Replaced → List Check
 renameFast N t s d n x =
     renameBefore (N .core) t s d n ++ ((isAbove (N .core .entries) s d ⇒ EINVAL ∷ []) ++ (renameVerdict (N .core) t s d x ++ renameLater (N .core .entries) s x))
 
 -- what a call answers and leaves, with no test of soundness; a call of the tree that stands in no case is as it was
-unfoldable played : Named → NamedCall → NamedOutcome
+unfoldable pub played : Named → NamedCall → NamedOutcome
 played N (lifted c q) = let o = bare-played (N .core) c in namedOutcome (o .reply) (withNames (o .left) (N .names))
 played N (create t d k n) =
     judgedBy (namingEntry (N .core) t d (makeOf (kindOf k)))
@@ -90,6 +90,7 @@ played N (lookup p) = outcomeNamed N (lookup p)
 played N (turn Q) = outcomeNamed N (turn Q)
 played N (batch rs ns xs) = outcomeNamed N (batch rs ns xs)
 played N (apply stock site name) = outcomeNamed N (apply stock site name)
+played N (write r name out) = outcomeNamed N (write r name out)
 
 -- ---- sound tables pass the tests
 past-named : (a b : ℕ → ℕ) (D : List ℕ) (N : Named) (cs : List Check) (done : NamedOutcome) → namedSound N ≡ true
@@ -113,13 +114,14 @@ same N (lookup p) h = refl
 same N (turn Q) h = refl
 same N (batch rs ns xs) h = refl
 same N (apply stock site name) h = refl
+same N (write r name out) h = refl
 
 -- a list of calls played
-unfoldable playedAll : Named → List NamedCall → Named
+unfoldable pub playedAll : Named → List NamedCall → Named
 playedAll N [] = N
 playedAll N (c ∷ cs) = playedAll (played N c .left) cs
 
-same-all : (N : Named) (cs : List NamedCall) → namedSound N ≡ true → allNamed N cs ≡ playedAll N cs
+pub same-all : (N : Named) (cs : List NamedCall) → namedSound N ≡ true → allNamed N cs ≡ playedAll N cs
 unfolding allNamed playedAll
 same-all N [] h = refl
 same-all N (c ∷ cs) h = same-all (afterNamed N c) cs (kept N c h) ∙ ap (λ o. playedAll (o .left) cs) (same N c h)

@@ -78,10 +78,10 @@ module _ (T T′ : Tables) (t : ℕ)
     grown = λ l m. rw (same, chain-agree (T .layers) (T′ .layers) a maxDomain (youngest (T .threads) t)) m;
   }
 
-stays-alone : (T T′ : Tables) (t : ℕ) → threadLive (T .threads) t ≡ true → T′ .layers ≡ T .layers → T′ .pool ≡ T .pool → T′ .threads ≡ T .threads → Stays T T′ t
+pub stays-alone : (T T′ : Tables) (t : ℕ) → threadLive (T .threads) t ≡ true → T′ .layers ≡ T .layers → T′ .pool ≡ T .pool → T′ .threads ≡ T .threads → Stays T T′ t
 stays-alone T T′ t v a b c = stays-threads T T′ t (λ l. rw a refl) (λ l. rw (a, b) refl) (rw c v) (rw c refl)
 
-stays-self : (T : Tables) (t : ℕ) → threadLive (T .threads) t ≡ true → Stays T T t
+pub stays-self : (T : Tables) (t : ℕ) → threadLive (T .threads) t ≡ true → Stays T T t
 stays-self T t v = stays-alone T T t v refl refl refl
 
 -- ---- restrict
@@ -226,7 +226,7 @@ stays T (rename t s d x) v w keeps = call-stays T _ _ v (stays-self T v w) (λ h
 stays T (exchange t s d x) v w keeps = call-stays T _ _ v (stays-self T v w) (λ h z. stays-alone T _ v w refl refl refl)
 
 -- ---- a list of calls
-stays-on : (T T1 T2 : Tables) (t : ℕ) → Stays T T1 t → Stays T1 T2 t → Stays T T2 t
+pub stays-on : (T T1 T2 : Tables) (t : ℕ) → Stays T T1 t → Stays T1 T2 t → Stays T T2 t
 unfolding Grown
 stays-on T T1 T2 t p q = record {
   layers = λ l m. q .layers l (p .grown l m) ∙ p .layers l m;

@@ -31,7 +31,7 @@ ghost use Rattle.verdict.specs.Denial.{threadDenial};
 ghost use Rattle.tree.specs.Entries.{freeEntry, unknownKind};
 ghost use Rattle.tree.specs.Create.{createShape, createLater, treeCreateChecks, treeCreated};
 
-fn unknown_kind(k: u64) -> bool
+pub fn unknown_kind(k: u64) -> bool
     ensures { λ r. ⌜ r ≡ unknownKind k ⌝ }
 {
     if k == 0 {

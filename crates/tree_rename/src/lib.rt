@@ -104,7 +104,7 @@ fn rename_denial(
     )
 }
 
-fn rename_later(entries: &[u64], s: u64, x: Replaced) -> u64
+pub fn rename_later(entries: &[u64], s: u64, x: Replaced) -> u64
     ensures { λ r. ⌜ r ≡ first (renameLater (now (entries .entry)) s x) ⌝ }
 {
     if is_same(entries, s, x) {

@@ -68,6 +68,7 @@ fn options(arguments: &[String]) -> Option<(Options, u64)> {
         seed,
         calls: calls.unwrap_or(all),
         seconds,
+        policies: true,
     };
     Some((options, long))
 }

@@ -23,12 +23,22 @@ use model::tables::{encode_into, Table, Tables};
 use model::tally::{Tally, FAULTS};
 use std::collections::BTreeMap;
 
-/// The first difference that a comparison finds, made short.
+/// The first difference that a comparison finds without policy files, made short.
 fn found<B: Broker>(broker: &mut B) -> (Case, Difference) {
+    first_found(broker, false)
+}
+
+/// The same with policy files between the calls.
+fn found_with_policies<B: Broker>(broker: &mut B) -> (Case, Difference) {
+    first_found(broker, true)
+}
+
+fn first_found<B: Broker>(broker: &mut B, policies: bool) -> (Case, Difference) {
     let options = Options {
         seed: 1,
         calls: 500_000,
         seconds: None,
+        policies,
     };
     let case = compare(broker, &options, &mut Tally::default());
     shortened(broker, case)
@@ -2488,7 +2498,7 @@ fn places_of_other_fields_are_found() {
     };
     found_reading_of(enclosing, [EBADMSG; 2]);
     // Among random files, too.
-    let (case, difference) = found(&mut Reading(enclosing));
+    let (case, difference) = found_with_policies(&mut Reading(enclosing));
     assert_eq!(case.steps.len(), 1, "{}", scenario(&case, &difference));
     // A name whose masks are missing at the end.
     let name = |wanted: &Wanted| {
@@ -2668,7 +2678,7 @@ impl<F: Fn(&mut Model, &Wanted, &Written) -> (Answer, [u64; 3])> Broker for Appl
 fn found_applying(
     fault: impl Fn(&mut Model, &Wanted, &Written) -> (Answer, [u64; 3]),
 ) -> (usize, [u64; 2]) {
-    let (case, difference) = found(&mut Applying(fault));
+    let (case, difference) = found_with_policies(&mut Applying(fault));
     let text = scenario(&case, &difference);
     let last = case.steps.last();
     assert!(matches!(last, Some(Step::ApplyPolicy(_))), "{text}");
@@ -2962,7 +2972,7 @@ impl Broker for FilesFirst {
 
 #[test]
 fn files_before_soundness_are_found() {
-    let (case, difference) = found(&mut FilesFirst);
+    let (case, difference) = found_with_policies(&mut FilesFirst);
     let text = scenario(&case, &difference);
     assert_eq!(difference.model.number, Errno::EIO.returned(), "{text}");
     assert!(case.steps.len() <= 2, "{text}");
@@ -3000,6 +3010,7 @@ fn the_model_does_not_differ_from_itself_and_meets_everything() {
         seed: 1,
         calls: 80_000,
         seconds: None,
+        policies: true,
     };
     let mut tally = Tally::default();
     assert_eq!(compare(&mut Rereading, &options, &mut tally), None);

@@ -2,7 +2,10 @@
 use super::{with_bytes, Outcome, View, BAD_INPUT, DIFFERS};
 use crate::lines::broken;
 use crate::paint::Paint;
+use crate::picture::{explain, Chosen};
+use crate::play::play;
 use crate::scenario::parse;
+use crate::why::why;
 use std::ops::Range;
 use std::path::Path;
 
@@ -48,12 +51,20 @@ impl Tried {
                 paint: Paint { on: false },
             };
             let folder = Path::new("");
-            let ran = with_bytes("file", folder, bytes, |name, play| view.run(name, play));
-            let explained =
-                with_bytes("file", folder, bytes, |name, play| view.explain(name, play));
-            for outcome in [&ran, &explained] {
+            let ran = with_bytes("file", folder, bytes, |name, read| {
+                view.run(name, play(read))
+            });
+            let all = Chosen::default();
+            let explained = with_bytes("file", folder, bytes, |name, read| {
+                explain(&view, name, play(read), &all)
+            });
+            let why = with_bytes("file", folder, bytes, |name, read| {
+                why(&view, name, read, None)
+            });
+            for outcome in [&ran, &explained, &why] {
                 look_at(outcome, json, bytes);
             }
+            assert_eq!(why.code == BAD_INPUT, ran.code == BAD_INPUT);
             assert_eq!(ran.messages.is_empty(), ran.code != BAD_INPUT);
             assert_eq!(explained.messages.is_empty(), explained.code == 0);
             assert_eq!(ran.code, explained.code, "{}", bytes.escape_ascii());

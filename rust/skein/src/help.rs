@@ -1,17 +1,132 @@
-//! The text of `--help`.
+//! The text of `--help`, of all and of each command.
 
 pub const VERSION: &str = concat!("skein ", env!("CARGO_PKG_VERSION"), "\n");
 
 pub const USAGE: &str = "\
-usage: skein run [--json] [--verbose] [--color WHEN] FILE
-       skein explain [--json] [--all-rights] [--color WHEN] FILE
-       skein demo [--json] [--all-rights] [--color WHEN]
+usage: skein run [--json] [--verbose] FILE
+       skein explain [--json] [--all-rights] [--thread THREAD] ..
+                     [--entry ENTRY] .. [--html PAGE] FILE
+       skein why [--json] [--line LINE] FILE
+       skein search [--json] [--thread THREAD] .. [--entry ENTRY] ..
+                    [--right RIGHTS] [--depth N] [--states N] FILE
+       skein diff [--json] FILE FILE
+       skein diff --policy [--level N] [--json] FILE FILE
+       skein least [--json] [--thread THREAD] .. [--from LINE] TRACE
+       skein demo [--json] [--all-rights]
        skein import DIRECTORY
        skein policy check FILE
        skein policy show FILE
        skein policy build TEXT FILE
        skein policy find STOCK SITE NAME
-       skein --help | --version
+       skein [COMMAND] --help | --version
+";
+
+/// The help of a command, or of all.
+pub fn text(of: Option<&str>) -> String {
+    match of {
+        Some("explain") => EXPLAIN.to_owned(),
+        Some("why") => WHY.to_owned(),
+        Some("search") => SEARCH.to_owned(),
+        Some("diff") => DIFF.to_owned(),
+        Some("least") => LEAST.to_owned(),
+        _ => format!("{USAGE}{HELP}"),
+    }
+}
+
+const EXPLAIN: &str = "\
+usage: skein explain [--json] [--all-rights] [--thread THREAD] ..
+                     [--entry ENTRY] .. [--html PAGE] FILE
+
+Plays FILE without printing it, then shows what it leaves: a matrix of paths and
+threads with a letter for each right, the same for ports, the threads with their
+layers, the layers with what they handle, their rules and holders, and which
+threads reach which by each scope that some layer handles. If an answer differs,
+it says which and shows nothing. In full: docs/EXPLAIN.md.
+
+  --thread THREAD  a tree of that thread with a column for each right; a label
+                   or a number, and may be given several times
+  --entry ENTRY    what each thread may do there, and which layer denies the
+                   rest; a path, a label or a number, several times if wanted
+  --html PAGE      writes one HTML page with all of it, and prints nothing
+  --all-rights     all 16 rights, not only those that some layer handles
+  --json           one JSON document, of the threads and entries asked for
+
+Exit codes: 0 shown; 1 an answer differs; 2 bad input, or no such thread or
+entry; 3 a file cannot be read or written; 64 wrong usage
+";
+
+const WHY: &str = "\
+usage: skein why [--json] [--line LINE] FILE
+
+Plays FILE and says of each line that a layer refused which layer it was, for
+which rights, and the least rules that would grant it, found and checked by
+playing FILE with them; of an EXDEV also what would be gained. In full:
+docs/WHY.md.
+
+  --line LINE  that line alone, whatever it answered
+  --json       one JSON document
+
+Exit codes: 0 said; 2 bad input, or a line without a call; 3 FILE cannot be
+read; 64 wrong usage
+";
+
+const SEARCH: &str = "\
+usage: skein search [--json] [--thread THREAD] .. [--entry ENTRY] ..
+                    [--right RIGHTS] [--depth N] [--states N] FILE
+
+Plays FILE, then asks whether the threads, together, can come to a right at an
+entry that each of them lacked. It tries the calls that change the tree, breadth
+first, and prints the shortest list of calls as lines to be played behind FILE,
+or that there is none to the depth. In full: docs/SEARCH.md.
+
+  --thread THREAD  the threads, by label or number; those with a layer if none
+                   is named
+  --entry ENTRY    only rights at these entries, by path, label or number
+  --right RIGHTS   only these rights
+  --depth N        the longest list of calls that is tried (4)
+  --states N       the most states that are looked at (100,000)
+  --json           one JSON document
+
+Exit codes: 0 none; 1 found; 2 bad input; 3 FILE cannot be read; 4 undecided, as
+the states ran out before the depth was reached; 64 wrong usage
+";
+
+const DIFF: &str = "\
+usage: skein diff [--json] OLD NEW
+       skein diff --policy [--level N] [--json] OLD NEW
+
+Plays two files and prints which rights each thread gains (+) and loses (-) from
+OLD to NEW, by path and port, and which threads it reaches newly or no longer.
+Threads are the same if they have the same label, or number where they have
+none. In full: docs/DIFF.md.
+
+  --policy   OLD and NEW are policy files, as skein policy takes them: prints
+             which rulesets are gone or new, and what the masks of the others
+             and their rules at each path and port gain and lose
+  --level N  policy files as they are at this level, 1 to 6 (6)
+  --json     one JSON document
+
+Exit codes: 0 no difference; 1 some; 2 bad input; 3 a file cannot be read; 64
+wrong usage
+";
+
+const LEAST: &str = "\
+usage: skein least [--json] [--thread THREAD] .. [--from LINE] TRACE
+
+Plays TRACE, a scenario that records calls, and prints the least policy of each
+thread under which every call that succeeded still does: a ruleset that handles
+all it can, with the fewest rights. It is checked by playing TRACE with it, and
+so is that without any one of these rights a call is refused. In full:
+docs/LEAST.md.
+
+  --thread THREAD  the threads, by label or number; if none is named, all that
+                   make such calls, without main if there are others
+  --from LINE      the calls from this line on; what stands above is not held
+                   to the policy
+  --json           one JSON document
+
+Exit codes: 0 printed; 1 there is no such policy; 2 bad input; 3 TRACE cannot be
+read; 64 wrong usage
 ";
 
 /// What stands below the usage in `--help`.
@@ -26,11 +141,15 @@ Commands
            what was made (new 5), or the error (EACCES), and below it which
            layer refused and for which rights. An answer that the line does
            not allow is marked DIFFERS.
-  explain  plays FILE without printing it, then draws the tree it leaves, with
-           what each thread may do at each entry and port, asked of the broker
-           right by right, who holds each layer, and which threads reach which
-           by each scope that some layer handles. If an answer differs, it says
-           which and draws nothing.
+  explain  shows what FILE leaves: what each thread may do at each path and
+           port, the layers with their rules, and which threads reach which.
+  why      says of each line that a layer refused which layer it was, for which
+           rights, and the least rules that would grant it.
+  search   asks whether threads, together, can come to a right that each of
+           them lacked, and prints the calls.
+  diff     prints the rights that each thread gains and loses from one file to
+           another; with --policy those of the rulesets of two policy files.
+  least    prints the least policy under which the calls of a TRACE succeed.
   demo     shows document 01's worked tree as explain does, and plays its
            worked cases.
   import   prints a scenario that builds the tree of a DIRECTORY of this
@@ -45,10 +164,10 @@ Commands
            none is an empty one. docs/POLICY.md has both forms.
 
 Options
-  --json        one JSON document instead of text; docs/SCENARIO.md lists its
-                fields
-  --all-rights  a column for each of the 16 rights, not only for those that
-                some layer handles
+  skein COMMAND --help says more of explain, why, search, diff and least.
+  --json        one JSON document instead of text; docs/ has a page for each
+                command that lists its fields (run: docs/SCENARIO.md)
+  --all-rights  all 16 rights, not only those that some layer handles
   -v, --verbose says below each access and turn how many entries' rules were
                 read
   --color WHEN  always, never or auto: where output is a terminal and NO_COLOR
@@ -147,12 +266,14 @@ Rights: a number, none, or names joined by + in any letter case
   size=N or hex= asks for the raw call.
 
 Exit codes
-  0   every answer is as its line expects
-  1   some answer differs: a refusal on a line without => among them; neither
-      file of policy find has the name
+  0   every answer is as its line expects; what was asked has the answer no:
+      nothing found, no difference
+  1   some answer differs: a refusal on a line without => among them; or
+      something is found, or different; neither file of policy find has the name
   2   bad input: FILE:LINE: what was found; what was expected; of a policy file
       FILE: byte PLACE: its bytes there, and the same
   3   FILE cannot be read, or the output cannot be written
+  4   a search ended undecided
   64  wrong usage
 
 Example: a thread that may read a folder cannot write in it

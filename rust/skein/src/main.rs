@@ -11,57 +11,49 @@
 )]
 
 mod args;
+#[cfg(test)]
+mod brute;
 mod demo;
+mod diff;
 #[cfg(test)]
 mod fuzz;
 mod help;
 mod import;
 mod json;
+mod least;
 mod lines;
 mod messages;
+mod named;
+mod outcome;
 mod paint;
 mod picture;
 mod play;
 mod policy;
+mod remedy;
+mod request;
 mod scenario;
+mod search;
 mod transcript;
+mod why;
 mod words;
 
 use args::{Command, Options};
 use demo::Demo;
 use import::NoImport;
-use messages::{bad_lines, differing_lines, no_room, not_drawn};
+use messages::{bad_lines, differing_lines, no_room};
+use outcome::{Outcome, View, BAD_INPUT, DIFFERS, UNREADABLE, WRONG_USAGE};
 use paint::Paint;
-use picture::Explained;
 use play::{play, Play};
+use scenario::Scenario;
 use std::ffi::OsStr;
 use std::io::{ErrorKind, Read, Write};
 use std::path::Path;
 use std::process::ExitCode;
-use words::escaped;
-
-/// An answer differs from what its line expects.
-const DIFFERS: u8 = 1;
-const BAD_INPUT: u8 = 2;
-const UNREADABLE: u8 = 3;
-const WRONG_USAGE: u8 = 64;
-
-/// What a command leaves: its output, its messages and its exit code.
-#[derive(Default)]
-struct Outcome {
-    output: String,
-    messages: String,
-    code: u8,
-}
 
 fn main() -> ExitCode {
     let outcome = match args::parse(std::env::args_os().skip(1)) {
         Ok(options) => perform(&options),
-        Err(wrong) => Outcome {
-            messages: format!("skein: {wrong}\n{}", help::USAGE),
-            code: WRONG_USAGE,
-            ..Outcome::default()
-        },
+        Err(wrong) => Outcome::refused(format!("skein: {wrong}\n{}", help::USAGE), WRONG_USAGE),
     };
     show(outcome)
 }
@@ -99,15 +91,26 @@ fn perform(options: &Options) -> Outcome {
             on: options.color.wanted(),
         },
     };
-    let output = |output: String| Outcome {
-        output,
-        ..Outcome::default()
-    };
     match &options.command {
-        Command::Help => output(format!("{}{}", help::USAGE, help::HELP)),
-        Command::Version => output(help::VERSION.to_owned()),
-        Command::Run(file) => with_file(file, |name, play| view.run(name, play)),
-        Command::Explain(file) => with_file(file, |name, play| view.explain(name, play)),
+        Command::Help(of) => Outcome::output(help::text(*of)),
+        Command::Version => Outcome::output(help::VERSION),
+        Command::Run(file) => with_play(file, |name, play| view.run(name, play)),
+        Command::Explain(file, chosen) => with_play(file, |name, play| {
+            picture::explain(&view, name, play, chosen)
+        }),
+        Command::Why(file, line) => with_scenario(file, |name, scenario| {
+            why::why(&view, name, scenario, *line)
+        }),
+        Command::Search(file, question) => with_play(file, |name, play| {
+            search::search(&view, name, &play, question)
+        }),
+        Command::Diff(a, b) => with_play(a, |a, old| {
+            with_play(b, |b, new| diff::diff(&view, [(a, old), (b, new)]))
+        }),
+        Command::DiffPolicies(files, level) => diff::policies(&view, files, *level),
+        Command::Least(file, traced) => with_scenario(file, |name, scenario| {
+            least::least(&view, name, scenario, traced)
+        }),
         Command::Demo => view.demo(),
         Command::Import(directory) => import_tree(directory),
         Command::Policy(command) => policy::perform(command),
@@ -118,58 +121,42 @@ fn perform(options: &Options) -> Outcome {
 fn import_tree(directory: &OsStr) -> Outcome {
     let name = directory.to_string_lossy();
     match import::scenario(directory.as_ref()) {
-        Ok(output) => Outcome {
-            output,
-            ..Outcome::default()
-        },
-        Err(NoImport::Unreadable(path, error)) => Outcome {
-            messages: format!("skein: {}: {error}\n", escaped(&path.to_string_lossy())),
-            code: UNREADABLE,
-            ..Outcome::default()
-        },
-        Err(NoImport::NoRoom(lines)) => Outcome {
-            messages: no_room(&name, &lines),
-            code: BAD_INPUT,
-            ..Outcome::default()
-        },
+        Ok(output) => Outcome::output(output),
+        Err(NoImport::Unreadable(path, error)) => Outcome::unreadable(path.as_os_str(), &error),
+        Err(NoImport::NoRoom(lines)) => Outcome::refused(no_room(&name, &lines), BAD_INPUT),
     }
 }
 
-/// Reads and plays a file, and gives the play to `show`.
-fn with_file(file: &OsStr, show: impl FnOnce(&str, Play) -> Outcome) -> Outcome {
-    let name = file.to_string_lossy();
-    let bytes = match read(file) {
-        Ok(bytes) => bytes,
-        Err(error) => {
-            return Outcome {
-                messages: format!("skein: {}: {error}\n", escaped(&name)),
-                code: UNREADABLE,
-                ..Outcome::default()
-            }
+/// Reads a file, and gives its scenario to `show`.
+fn with_scenario(file: &OsStr, show: impl FnOnce(&str, &Scenario) -> Outcome) -> Outcome {
+    match read(file) {
+        Ok(bytes) => {
+            let folder = Path::new(file).parent().unwrap_or(Path::new(""));
+            with_bytes(&file.to_string_lossy(), folder, &bytes, show)
         }
-    };
-    let folder = Path::new(file).parent().unwrap_or(Path::new(""));
-    with_bytes(&name, folder, &bytes, show)
+        Err(error) => Outcome::unreadable(file, &error),
+    }
 }
 
-/// Reads and plays the bytes of a file that stands in a folder, and gives the play to `show`.
+/// Reads the bytes of a file that stands in a folder, and gives their scenario to `show`.
 fn with_bytes(
     name: &str,
     folder: &Path,
     bytes: &[u8],
-    show: impl FnOnce(&str, Play) -> Outcome,
+    show: impl FnOnce(&str, &Scenario) -> Outcome,
 ) -> Outcome {
     match scenario::parse(bytes) {
         Ok(mut scenario) => {
             scenario.folder = folder.to_owned();
-            show(name, play(&scenario))
+            show(name, &scenario)
         }
-        Err(lines) => Outcome {
-            messages: bad_lines(name, &lines),
-            code: BAD_INPUT,
-            ..Outcome::default()
-        },
+        Err(lines) => Outcome::bad_lines(name, &lines),
     }
+}
+
+/// Reads and plays a file, and gives the play to `show`.
+fn with_play(file: &OsStr, show: impl FnOnce(&str, Play) -> Outcome) -> Outcome {
+    with_scenario(file, |name, scenario| show(name, play(scenario)))
 }
 
 fn read(file: &OsStr) -> std::io::Result<Vec<u8>> {
@@ -179,15 +166,6 @@ fn read(file: &OsStr) -> std::io::Result<Vec<u8>> {
     let mut bytes = Vec::new();
     std::io::stdin().lock().read_to_end(&mut bytes)?;
     Ok(bytes)
-}
-
-/// How output is to look.
-struct View {
-    json: bool,
-    all_rights: bool,
-    verbose: bool,
-    width: usize,
-    paint: Paint,
 }
 
 impl View {
@@ -205,35 +183,10 @@ impl View {
         }
     }
 
-    fn explain(&self, name: &str, mut play: Play) -> Outcome {
-        let explained = Explained::of(&mut play, self.all_rights);
-        let output = match (self.json, &play.stopped) {
-            (_, Some(_)) => String::new(),
-            (true, None) => format!("{}\n", picture::json(name, &play, &explained)),
-            (false, None) => picture::text(&explained, self.width, self.paint),
-        };
-        let mut messages = differing_lines(name, &play);
-        messages.push_str(&bad_lines(name, play.stopped.as_slice()));
-        if code(&play) == DIFFERS {
-            messages.push_str(&not_drawn(name));
-        }
-        Outcome {
-            output,
-            messages,
-            code: code(&play),
-        }
-    }
-
     fn demo(&self) -> Outcome {
         let demo = match Demo::new() {
             Ok(demo) => demo,
-            Err(lines) => {
-                return Outcome {
-                    messages: bad_lines(demo::TREE_FILE, &lines),
-                    code: BAD_INPUT,
-                    ..Outcome::default()
-                }
-            }
+            Err(lines) => return Outcome::bad_lines(demo::TREE_FILE, &lines),
         };
         let shown = demo.play(self.all_rights);
         let output = if self.json {

@@ -45,6 +45,16 @@ pub fn differing_lines(name: &str, play: &Play) -> String {
     })
 }
 
+/// What is wrong with a play that is not as its file is written: a line that stopped it, and those whose answer differs.
+pub fn not_as_written(name: &str, play: &Play) -> Option<String> {
+    if play.is_as_expected() {
+        return None;
+    }
+    let mut messages = differing_lines(name, play);
+    messages.push_str(&bad_lines(name, play.stopped.as_slice()));
+    Some(messages)
+}
+
 /// What `explain` says where an answer differs.
 pub fn not_drawn(name: &str) -> String {
     let why = "nothing is drawn, as not every call answered as its line says";

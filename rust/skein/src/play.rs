@@ -11,19 +11,24 @@ use skeinrabbit::{
     PolicyFile, PolicyPart, PolicyRefusal, PortRights, Queue, Refusal, Rights, Rule, Ruleset,
     Scopes, Slot, SlotState, Table, Tables, Thread, Turn, Verdict,
 };
+use std::collections::BTreeMap;
 use std::ffi::OsString;
 use std::os::unix::ffi::OsStringExt;
 use std::path::PathBuf;
 
 /// Tables, queue and names as the lines so far left them.
+#[derive(Clone)]
 pub struct Player {
     pub tables: Tables,
     queue: Queue,
     pub names: Names,
-    /// The round of the line that is played.
+    /// The line that is played, and its round.
+    line: usize,
     round: u64,
     /// Where policy files are.
     folder: PathBuf,
+    /// The line that made each layer.
+    pub restricted: BTreeMap<Layer, usize>,
 }
 
 /// A line that was played.
@@ -173,7 +178,7 @@ fn made(result: Result<Entry, Refusal<Rights>>) -> Said {
 }
 
 impl Player {
-    fn new(folder: PathBuf) -> Self {
+    pub fn new(folder: PathBuf) -> Self {
         let mut tables = Tables::from_cells(Cells::zeroed());
         // The level is one that there is; were it refused, every line would show EIO.
         let _ = tables.fresh(Level::LATEST);
@@ -182,13 +187,15 @@ impl Player {
             tables,
             queue: Queue::new(),
             names,
+            line: 0,
             round: 1,
             folder,
+            restricted: BTreeMap::new(),
         }
     }
 
     /// Makes the call of a line as often as it says.
-    fn play<'s>(&mut self, statement: &'s Statement) -> Result<Played<'s>, Bad> {
+    pub fn play<'s>(&mut self, statement: &'s Statement) -> Result<Played<'s>, Bad> {
         let mut shown = self.round(statement, 1)?;
         for round in 2..=statement.rounds.unwrap_or(1) {
             let played = self.round(statement, round)?;
@@ -199,13 +206,14 @@ impl Player {
         Ok(shown)
     }
 
-    fn round<'s>(&mut self, statement: &'s Statement, round: u64) -> Result<Played<'s>, Bad> {
-        self.round = round;
+    /// Makes the call of a line once.
+    pub fn round<'s>(&mut self, statement: &'s Statement, round: u64) -> Result<Played<'s>, Bad> {
+        self.at(statement, round);
         let mut rules = Vec::new();
         let mut part = Vec::new();
         let mut fault = None;
         let (answer, report) = match &statement.call {
-            Call::Fresh { level } => (done(self.tables.fresh(*level)), None),
+            Call::Fresh { level } => (self.fresh(*level), None),
             Call::Ruleset(call) => (self.ruleset_call(call)?, None),
             Call::Policy(call) => self.policy_call(call, &mut fault)?,
             Call::LayerRules { layer } => (self.layer_rules(*layer, &mut rules), None),
@@ -233,6 +241,20 @@ impl Player {
             part,
             fault,
         })
+    }
+
+    /// Goes to a round of a line, without playing it.
+    pub fn at(&mut self, statement: &Statement, round: u64) {
+        self.line = statement.line;
+        self.round = round;
+    }
+
+    fn fresh(&mut self, level: Level) -> Answer {
+        let made = self.tables.fresh(level);
+        if made.is_ok() {
+            self.restricted.clear();
+        }
+        done(made)
     }
 
     fn ruleset_call(&mut self, call: &RulesetCall) -> Result<Answer, Bad> {
@@ -266,7 +288,11 @@ impl Player {
                 flags,
             } => {
                 let (thread, ruleset) = (self.thread(thread)?, self.ruleset(ruleset)?);
-                done(self.tables.restrict(thread, ruleset, *flags).map(drop))
+                let layer = self.tables.restrict(thread, ruleset, *flags);
+                if let Ok(layer) = layer {
+                    self.restricted.insert(layer, self.line);
+                }
+                done(layer.map(drop))
             }
         })
     }
@@ -414,7 +440,7 @@ impl Player {
     }
 
     /// The directory and the name that a line gives.
-    fn place(&self, place: &Place) -> Result<(Entry, Vec<u8>), Bad> {
+    pub fn place(&self, place: &Place) -> Result<(Entry, Vec<u8>), Bad> {
         Ok(match place {
             Place::In { directory, name } => (self.entry(directory)?, name.bytes(self.round)),
             Place::Path(path) => {
@@ -426,7 +452,7 @@ impl Player {
     }
 
     /// The directory and the entry that a line gives.
-    fn other(&self, other: &Other) -> Result<(Entry, Entry), Bad> {
+    pub fn other(&self, other: &Other) -> Result<(Entry, Entry), Bad> {
         Ok(match other {
             Other::In { directory, entry } => (self.entry(directory)?, self.entry(entry)?),
             Other::Path(path) => {
@@ -545,15 +571,15 @@ impl Player {
         Answer::Done
     }
 
-    fn entry(&self, operand: &Operand) -> Result<Entry, Bad> {
+    pub fn entry(&self, operand: &Operand) -> Result<Entry, Bad> {
         self.number(Space::Entry, operand).map(Entry::new)
     }
 
-    fn ruleset(&self, operand: &Operand) -> Result<Ruleset, Bad> {
+    pub fn ruleset(&self, operand: &Operand) -> Result<Ruleset, Bad> {
         self.number(Space::Ruleset, operand).map(Ruleset::new)
     }
 
-    fn thread(&self, operand: &Operand) -> Result<Thread, Bad> {
+    pub fn thread(&self, operand: &Operand) -> Result<Thread, Bad> {
         self.number(Space::Thread, operand).map(Thread::new)
     }
 

@@ -421,7 +421,7 @@ fn named(played: &Played) -> Option<(Layer, Mask)> {
     Some((layer?, rights))
 }
 
-fn mask_json(mask: Mask) -> Json {
+pub fn mask_json(mask: Mask) -> Json {
     match mask {
         Mask::Files(rights) => rights_json(rights.iter()),
         Mask::Ports(rights) => rights_json(rights.iter()),
@@ -452,11 +452,19 @@ fn part_json((start, length): (u64, u64), bytes: &[u8]) -> Json {
 }
 
 fn rule_json(rule: &Rule) -> Json {
-    let (key, number, rights) = match rule {
-        Rule::Path { object, rights } => ("object", *object, rights_json(rights.iter())),
-        Rule::Port { port, rights } => ("port", *port, rights_json(rights.iter())),
-    };
-    Json::Object(vec![(key, Json::Number(number)), ("rights", rights)])
+    let (place, rights) = rule_members(rule);
+    Json::Object(vec![place, ("rights", rights)])
+}
+
+/// Where a rule is, and its rights.
+pub fn rule_members(rule: &Rule) -> ((&'static str, Json), Json) {
+    match rule {
+        Rule::Path { object, rights } => (
+            ("object", Json::Number(*object)),
+            rights_json(rights.iter()),
+        ),
+        Rule::Port { port, rights } => (("port", Json::Number(*port)), rights_json(rights.iter())),
+    }
 }
 
 /// Rights by their names.

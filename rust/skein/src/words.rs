@@ -1,7 +1,7 @@
 //! Words in output and messages: escaped, cut, and beside the known ones that may be meant.
 
 /// The widest that a word is shown in a message.
-const WIDEST: usize = 60;
+pub const WIDEST: usize = 60;
 /// The most words that are listed.
 const MOST: usize = 24;
 

@@ -1,6 +1,6 @@
 //! `skein explain` and `skein demo`: pictures and their JSON.
 mod support;
-use support::{example, json, skein, skein_with, Value, EXAMPLES};
+use support::{example, json, skein, skein_with, unbroken, Scratch, Value, EXAMPLES};
 
 /// Drawn by hand from document 01: layer B, with a hard link of the feed in /cal.
 const LINKED: &str = "\
@@ -18,7 +18,36 @@ restrict main B
 ";
 
 const LINKED_PICTURE: &str = "\
-thread main: layer 0; no_new_privs
+entry            main
+/                -----
+/cal             -r-fm
+/cal/table       -r...
+/cal/twin ×2     -r...
+/import          wrRfm
+/import/feed ×2  wr...
+
+w write_file  r read_file  R remove_file  f make_reg  m refer
+- denied  . not a right of this kind of entry
+×N: an object with N entries (hard links)
+
+port   main
+8080   bc
+other  -c
+
+b bind_tcp  c connect_tcp
+
+thread  layers, oldest first
+main    0; no_new_privs
+
+layer 0, held by thread main
+  handles write_file+read_file+remove_file+make_reg+refer; bind_tcp
+  /cal       read_file+make_reg+refer
+  /import    write_file+read_file+remove_file+make_reg+refer
+  port 8080  bind_tcp
+";
+
+const LINKED_TREE: &str = "\
+thread main: layers 0; no_new_privs
                                       write_file
                                       │ read_file
                                       │ │ remove_file
@@ -35,35 +64,152 @@ entry          no  kind       object  │ │ │ │ │
 + granted   - denied   blank: not a right of this kind of entry
 ×N: an object with N entries (hard links)
 
-layer  holders
-0      1: thread main
+port   may
+8080   bind_tcp+connect_tcp
+other  connect_tcp; layer 0 denies bind_tcp
+";
 
-ports of  port   bind_tcp  connect_tcp
-main      8080   +         +
-main      other  -         +
+const LINKED_TWIN: &str = "\
+/cal/twin: entry 5, regular, object 4 ×2
+  thread main: layers 0; no_new_privs
+    may read_file; layer 0 denies write_file
+  layer 0: rule at /cal grants read_file+make_reg+refer
 ";
 
 #[test]
 fn the_linked_tree_is_drawn_as_by_hand() {
-    let ran = skein_with(&["explain", "-"], LINKED.as_bytes());
-    assert_eq!((ran.code, ran.err.as_str()), (0, ""));
-    assert_eq!(ran.out, LINKED_PICTURE, "\n{}", ran.out);
+    for (options, picture) in [
+        (&["explain", "-"][..], LINKED_PICTURE),
+        (&["explain", "-", "--thread", "main"], LINKED_TREE),
+        (&["explain", "--thread=0", "-"], LINKED_TREE),
+        (&["explain", "-", "--entry", "/cal/twin"], LINKED_TWIN),
+        (&["explain", "-", "--entry", "5"], LINKED_TWIN),
+    ] {
+        let ran = skein_with(options, LINKED.as_bytes());
+        assert_eq!((ran.code, ran.err.as_str()), (0, ""));
+        assert_eq!(ran.out, picture, "\n{}", ran.out);
+    }
+}
+
+#[test]
+fn what_is_asked_about_must_be_there() {
+    for (option, message) in [
+        (
+            "--thread=mian",
+            "there is no thread `mian` at the end; expected one: main\n",
+        ),
+        (
+            "--thread=1",
+            "there is no thread `1` at the end; expected one: main\n",
+        ),
+        (
+            "--entry=/cal/tabel",
+            "there is no entry `/cal/tabel` at the end; expected one: perhaps `/cal/table`\n",
+        ),
+    ] {
+        for json in [&[][..], &["--json"]] {
+            let words = [&["explain", "-", option], json].concat();
+            let ran = skein_with(&words, LINKED.as_bytes());
+            assert_eq!((ran.code, ran.out.as_str()), (2, ""), "{option}");
+            assert_eq!(unbroken(&ran.err), format!("skein: -: {message}"));
+        }
+    }
+}
+
+#[test]
+fn json_is_of_what_is_asked_about() {
+    let options = ["explain", "--json", "-", "--entry=/cal", "--thread=outer"];
+    let text = format!("create main /cal directory\n{SCOPED}");
+    let document = json(&skein_with(&options, text.as_bytes()).out);
+    let [entry] = document.at("entries").list() else {
+        panic!("one entry");
+    };
+    assert_eq!(entry.at("path").text(), "/cal");
+    let [thread] = document.at("threads").list() else {
+        panic!("one thread");
+    };
+    assert_eq!(thread.at("name").text(), "outer");
+    assert_eq!(thread.at("access").list().len(), 1);
+    let signal = &document.at("scopes").list()[1];
+    let [reached] = signal.at("threads").list() else {
+        panic!("one thread");
+    };
+    assert_eq!(reached.at("granted").list(), [Value::Number(1)]);
+}
+
+/// Eight threads of which each has all 16 rights to show do not fit side by side; each row says what each thread has.
+#[test]
+fn a_matrix_that_is_too_wide_is_in_parts() {
+    let text = "create_ruleset fs=0xffff -> rs\nset_no_new_privs main\nrepeat 7 clone main\nrestrict 7 rs\n";
+    let ran = skein_with(&["explain", "-"], text.as_bytes());
+    let rows: Vec<&str> = ran
+        .out
+        .lines()
+        .filter(|line| line.starts_with("/ "))
+        .collect();
+    let all = "xwrlDRcdfspbymti";
+    let none = "-".repeat(16);
+    let four = format!("/      {all}  {all}  {all}  {all}");
+    assert_eq!(
+        rows,
+        [four.clone(), format!("/      {all}  {all}  {all}  {none}")]
+    );
 }
 
 #[test]
 fn without_a_layer_nothing_is_denied() {
     let ran = skein_with(&["explain", "-"], b"create main /pipe fifo -> pipe\n");
     let expected = "\
-entry      no  kind       object
-/           0  directory  0
-└─ pipe     1  fifo       1
+entry
+/
+/pipe
 
 No layer handles a right at entries: every thread may do everything there.
 
-ports of  port   bind_tcp  connect_tcp
-main      other  +         +
+No layer handles a right at ports: every thread may use every port.
+
+thread  layers, oldest first
+main    none
 ";
     assert_eq!(ran.out, expected, "\n{}", ran.out);
+}
+
+/// The page is whole, names stay text, and it asks for nothing from elsewhere.
+#[test]
+fn the_page_has_all_of_it() {
+    let text = format!(
+        "create main /<b>&x regular\n{LINKED}create_ruleset scope=signal -> s\nrestrict main s\n"
+    );
+    let page = skein_with(&["explain", "-", "--html", "-"], text.as_bytes());
+    assert_eq!((page.code, page.err.as_str()), (0, ""));
+    for part in [
+        "<!doctype html>",
+        "data-path=\"/cal/table\"",
+        "data-path=\"/&lt;b&gt;&amp;x\"",
+        "title=\"granted: read_file; layer 0 denies write_file\"",
+        "id=\"layer-0\"",
+        "<dt class=\"path\">/import</dt>",
+        "<h2>Scope: signal</h2>",
+        "</html>\n",
+    ] {
+        assert!(page.out.contains(part), "{part}");
+    }
+    assert_eq!(page.out.matches("data-path=").count(), 7);
+    for from_elsewhere in ["http", "src=", "@import", "url(", "<b>&x"] {
+        assert!(!page.out.contains(from_elsewhere), "{from_elsewhere}");
+    }
+    let file = Scratch::new("page.html", b"");
+    let ran = skein_with(&["explain", "-", "--html", file.path()], text.as_bytes());
+    assert_eq!((ran.code, ran.out.as_str(), ran.err.as_str()), (0, "", ""));
+    assert_eq!(std::fs::read_to_string(file.path()).unwrap(), page.out);
+    let ran = skein_with(
+        &["explain", "-", "--html", "/no/such/page"],
+        text.as_bytes(),
+    );
+    assert_eq!((ran.code, ran.out.as_str()), (3, ""));
+    assert!(ran.err.starts_with("skein: /no/such/page: "), "{}", ran.err);
+    let ran = skein_with(&["explain", "-", "--html", "-"], UNRESTRICTED.as_bytes());
+    assert_eq!((ran.code, ran.out.as_str()), (1, ""));
 }
 
 #[test]
@@ -152,7 +298,7 @@ fn any_answer_of_any_kind_that_differs_keeps_the_picture_back() {
         let allowed = line.split(" =>").next().unwrap().to_owned() + " => any";
         let ran = skein_with(&["explain", "-"], allowed.as_bytes());
         assert_eq!((ran.code, ran.err.as_str()), (0, ""), "{allowed}");
-        assert!(ran.out.contains("\n/ "), "{allowed}: {}", ran.out);
+        assert!(ran.out.starts_with("entry\n/\n"), "{allowed}: {}", ran.out);
     }
 }
 
@@ -167,13 +313,8 @@ create main /twice fifo -> twice
 clone main -> t
 ";
     let ran = skein_with(&["explain", "-", "--all-rights"], text.as_bytes());
-    assert!(!ran.out.contains("old"), "{}", ran.out);
-    assert_eq!(
-        ran.out.matches("─ twice").count(),
-        2,
-        "once in the picture of each thread"
-    );
-    assert!(ran.out.contains("└─ twice     3"), "{}", ran.out);
+    assert!(!ran.out.contains("/old"), "{}", ran.out);
+    assert_eq!(ran.out.matches("\n/twice ").count(), 1, "{}", ran.out);
     let document = json(&skein_with(&["explain", "-", "--json"], text.as_bytes()).out);
     let entries = document.at("entries").list().iter();
     let labels: Vec<&Value> = entries.map(|entry| entry.at("label")).collect();
@@ -181,7 +322,7 @@ clone main -> t
         panic!("{labels:?}");
     };
     assert_eq!(twice, "twice");
-    assert!(ran.out.contains("thread t: no layer"));
+    assert!(ran.out.contains("\nt       none\n"), "{}", ran.out);
 }
 
 /// The rights that some layer handles: a layer handles REFER unasked only with other rights of the file system.
@@ -296,6 +437,19 @@ fn json_has_the_documented_fields() {
     assert_eq!(thread.at("layers").list(), [Value::Number(0)]);
     assert_eq!(thread.at("no_new_privs"), &Value::Bool(true));
     assert_eq!(thread.at("admin"), &Value::Bool(false));
+    let [layer] = document.at("layers").list() else {
+        panic!("one layer");
+    };
+    assert_eq!(layer.at("fs").texts(), rights);
+    assert_eq!(layer.at("net").texts(), ["bind_tcp"]);
+    assert!(layer.at("scope").list().is_empty());
+    let [cal, _, port] = layer.at("rules").list() else {
+        panic!("three rules");
+    };
+    assert_eq!(cal.at("object").number(), 1);
+    assert_eq!(cal.at("paths").texts(), ["/cal"]);
+    assert_eq!(cal.at("rights").texts(), ["read_file", "make_reg", "refer"]);
+    assert_eq!(port.at("port").number(), 8080);
     let ports = thread.at("ports").list();
     assert_eq!(ports[0].at("port").number(), 8080);
     assert_eq!(ports[1].at("port"), &Value::Null);
@@ -320,14 +474,13 @@ restrict other r
 #[test]
 fn the_holders_of_layers_are_shown() {
     let ran = skein_with(&["explain", "-"], SHARED.as_bytes());
-    let shown = "\
-layer  holders
-0      1: thread other
-1      2: layer 0, layer 2
-2      1: thread one
-
-ports of";
-    assert!(ran.out.contains(shown), "{}", ran.out);
+    for title in [
+        "layer 0 below layer 1, held by thread other\n",
+        "layer 1, held by layer 0, layer 2\n",
+        "layer 2 below layer 1, held by thread one\n",
+    ] {
+        assert!(ran.out.contains(title), "{}", ran.out);
+    }
     let document = json(&skein_with(&["explain", "--json", "-"], SHARED.as_bytes()).out);
     let [youngest, shared, _] = document.at("layers").list() else {
         panic!("three layers");
@@ -441,19 +594,30 @@ fn pictures_fit_in_80_columns() {
     for thread in ["u", "v", "w", "x", "y", "z"] {
         text.push_str(&format!("clone main -> {}\n", thread.repeat(200)));
     }
-    let ran = skein_with(&["explain", "--all-rights", "-"], text.as_bytes());
-    assert_eq!((ran.code, ran.err.as_str()), (0, ""));
-    for line in ran.out.lines() {
-        assert!(line.chars().count() <= 80, "{line}");
+    let whole = skein_with(&["explain", "--all-rights", "-"], text.as_bytes());
+    let tree = ["explain", "--all-rights", "-", "--thread", "1"];
+    let tree = skein_with(&tree, text.as_bytes());
+    let entry = skein_with(&["explain", "-", "--entry", "40"], text.as_bytes());
+    for ran in [&whole, &tree, &entry] {
+        assert_eq!((ran.code, ran.err.as_str()), (0, ""));
+        for line in ran.out.lines() {
+            assert!(line.chars().count() <= 80, "{line}");
+        }
     }
-    assert!(ran.out.contains("layers 16 17 18"), "{}", ran.out);
-    assert!(ran.out.contains("…40 nn…"), "{}", ran.out);
+    assert!(whole.out.contains(" 16 17 18 "), "{}", whole.out);
     assert!(
-        ran.out.contains("…N: an entry with N directories above it"),
+        whole.out.contains("\n…n/nnnnn/nnnnnn/nnnnnnn/nnnnnnnn  "),
         "{}",
-        ran.out
+        whole.out
     );
-    assert!(ran.out.contains("4294967295 ×2"), "{}", ran.out);
+    assert!(tree.out.contains("…40 nn…"), "{}", tree.out);
+    assert!(
+        tree.out
+            .contains("…N: an entry with N directories above it"),
+        "{}",
+        tree.out
+    );
+    assert!(tree.out.contains("4294967295 ×2"), "{}", tree.out);
 }
 
 #[test]
@@ -466,32 +630,17 @@ restrict main r
 restrict main r
 ";
     let ran = skein_with(&["explain", "-"], text.as_bytes());
-    assert!(
-        ran.out
-            .starts_with("thread main: layers 0 1, oldest first; no_new_privs; admin\n"),
-        "{}",
-        ran.out
-    );
+    let shown = "thread  layers, oldest first\nmain    0 1; no_new_privs; admin\n";
+    assert!(ran.out.contains(shown), "{}", ran.out);
 }
 
 #[test]
 fn the_demo_shows_the_tree_and_the_worked_answers() {
     let ran = skein(&["demo"]);
     assert_eq!((ran.code, ran.err.as_str()), (0, ""));
-    // The rows of /cal, from document 01: A gives it 4, B 8452, C 8484.
-    for row in [
-        "1       - + - - -",
-        "1       - + - + +",
-        "1       - + + + +",
-    ] {
-        assert_eq!(
-            ran.out
-                .matches(&format!("cal          1  directory  {row}"))
-                .count(),
-            1,
-            "{row}"
-        );
-    }
+    // The row of /cal, from document 01: A gives it 4, B 8452, C 8484, and main has no layer.
+    let row = "/cal          wrRfm    -r---    -r-fm    -rRfm\n";
+    assert!(ran.out.contains(row), "{}", ran.out);
     for case in [
         "A: execute 3 gives 0*",
         "C: rename 3 to 2 EXDEV*",

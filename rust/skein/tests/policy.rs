@@ -1,4 +1,4 @@
-//! `skein policy`, policy files in scenarios, and the examples of docs/POLICY.md.
+//! `skein policy`, the differences of policy files, policy files in scenarios, and the examples of docs/POLICY.md.
 mod support;
 use std::path::{Path, PathBuf};
 use support::{command, example, json, ran, skein, skein_with, unbroken, Ran, Scratch};
@@ -442,6 +442,129 @@ fn the_example_plays() {
         let path = example(&format!("policy/{file}"));
         let checked = skein(&["policy", "check", &path]);
         assert_eq!(checked.code, 0, "{}", checked.err);
+    }
+}
+
+/// The differences of two files that are built from text.
+fn differences(name: &str, texts: [&str; 2], level: &str) -> Ran {
+    let folder = Folder::new(name);
+    folder.write("old.txt", texts[0].as_bytes());
+    folder.write("new.txt", texts[1].as_bytes());
+    let words = ["diff", "--policy", "--level", level, "old.txt", "new.txt"];
+    let text = folder.skein(&words);
+    // The same of the files as bytes, and nothing between a file and its text.
+    for file in ["old", "new"] {
+        let built = folder.skein(&["policy", "build", &format!("{file}.txt"), file]);
+        assert_eq!(built.code, 0, "{}", built.err);
+        let same = folder.skein(&["diff", "--policy", file, &format!("{file}.txt")]);
+        let expected = "No difference: the same rulesets at level 6.\n";
+        assert_eq!((same.code, same.out.as_str()), (0, expected));
+    }
+    let bytes = folder.skein(&["diff", "--policy", "--level", level, "old", "new"]);
+    let named = text.out.replace("in old.txt:", "in old:");
+    assert_eq!(bytes.out, named.replace("in new.txt:", "in new:"));
+    assert_eq!(bytes.code, text.code);
+    text
+}
+
+#[test]
+fn rulesets_of_two_files_differ_in_masks_and_rules() {
+    let old = "ruleset a\nmasks fs=execute+read_file net=bind_tcp\n\
+        path /x read_file\npath /gone execute\npath /same execute\nport 7 bind_tcp\nport 10 bind_tcp\n\
+        ruleset b\nmasks fs=refer\nruleset c\nmasks net=bind_tcp\n";
+    let new = "ruleset d\\x20d\nmasks fs=refer\nruleset c\nmasks net=bind_tcp\n\
+        ruleset a\nmasks fs=read_file+ioctl_dev scope=signal\n\
+        path /x execute\npath /x read_file\npath /same execute\npath \"\" 0x10002\nport 10 connect_tcp\n";
+    let ran = differences("masks", [old, new], "6");
+    let expected = "\
+only in old.txt: ruleset b
+only in new.txt: ruleset d\\x20d
+
+ruleset a
+  masks fs     + ioctl_dev
+               - execute
+  masks net    - bind_tcp
+  masks scope  + signal
+  \"\"           + 0x10002
+  /gone        - execute
+  /x           + execute
+  port 7       - bind_tcp
+  port 10      + connect_tcp
+               - bind_tcp
+";
+    assert_eq!((ran.code, ran.out.as_str()), (1, expected));
+}
+
+/// A group counts from its level on and those around it; a group, be it empty, cuts the masks of its ruleset, but not the bits that no
+/// level knows.
+#[test]
+fn differences_are_those_of_a_level() {
+    let masks = "masks fs=0x1e000 net=bind_tcp scope=signal\n";
+    let old = format!("ruleset a\n{masks}");
+    let new = format!(
+        "ruleset a\n{masks}group 3\ngroup 2\npath /deep truncate\nend\nport 1 bind_tcp\nend\n\
+         group 6\nend\n"
+    );
+    let cut = |fs: &str, more: &str| format!("ruleset a\n  masks fs     - {fs}\n{more}");
+    let scope = "  masks scope  - signal\n";
+    let below = format!("  masks net    - bind_tcp\n{scope}");
+    let rules = "  /deep        + truncate\n  port 1       + bind_tcp\n";
+    for (level, expected) in [
+        ("1", cut("refer+truncate+ioctl_dev", &below)),
+        ("2", cut("truncate+ioctl_dev", &below)),
+        ("3", cut("ioctl_dev", &format!("{below}{rules}"))),
+        ("4", cut("ioctl_dev", &format!("{scope}{rules}"))),
+        ("5", format!("ruleset a\n{scope}{rules}")),
+        (
+            "6",
+            "ruleset a\n  /deep   + truncate\n  port 1  + bind_tcp\n".to_owned(),
+        ),
+    ] {
+        let ran = differences("level", [&old, &new], level);
+        assert_eq!((ran.code, ran.out), (1, expected), "level {level}");
+    }
+    // Inside a group of a higher level one of a lower level does not count.
+    let outer = format!("ruleset a\n{masks}group 5\ngroup 1\nport 1 bind_tcp\nend\nend\n");
+    let empty = format!("ruleset a\n{masks}group 1\nend\n");
+    let ran = differences("level", [&empty, &outer], "4");
+    let expected = "No difference: the same rulesets at level 4.\n";
+    assert_eq!((ran.code, ran.out.as_str()), (0, expected));
+}
+
+#[test]
+fn differences_of_policies_as_json() {
+    let old = "ruleset a\nmasks fs=0x10004\npath /x read_file\nruleset b\nmasks net=bind_tcp\n";
+    let new = "ruleset a\nmasks fs=refer\npath /x write_file+execute\nport 80 bind_tcp\n";
+    let folder = Folder::new("json");
+    folder.write("old.txt", old.as_bytes());
+    folder.write("new.txt", new.as_bytes());
+    let ran = folder.skein(&["diff", "--json", "--policy", "old.txt", "new.txt"]);
+    let expected = concat!(
+        r#"{"command":"diff","old":"old.txt","new":"new.txt","level":6,"#,
+        r#""only_old":{"rulesets":["b"]},"only_new":{"rulesets":[]},"#,
+        r#""rulesets":[{"ruleset":"a","#,
+        r#""masks":[{"mask":"fs","gained":["refer"],"lost":["0x10004"]}],"#,
+        r#""paths":[{"path":"/x","gained":["execute","write_file"],"lost":["read_file"]}],"#,
+        r#""ports":[{"port":80,"gained":["bind_tcp"],"lost":[]}]}]}"#,
+        "\n"
+    );
+    assert_eq!((ran.code, ran.out.as_str()), (1, expected));
+}
+
+/// Either file may be at fault, and it is said as `policy check` says it.
+#[test]
+fn a_damaged_file_has_no_differences() {
+    let folder = Folder::new("damaged");
+    folder.write("cut", &[1, 1, 0, b'p']);
+    folder.write("wrong.txt", b"ruleset p\npath / 4\n");
+    for bad in ["cut", "wrong.txt", "nowhere"] {
+        let checked = folder.skein(&["policy", "check", bad]);
+        assert_eq!(checked.code, if bad == "nowhere" { 3 } else { 2 });
+        for files in [[bad, "none"], ["none", bad]] {
+            let ran = folder.skein(&["diff", "--policy", files[0], files[1]]);
+            assert_eq!((ran.code, ran.out.as_str()), (checked.code, ""));
+            assert_eq!(ran.err, checked.err);
+        }
     }
 }
 

@@ -28,7 +28,7 @@ fn wrong_usage_is_64() {
 #[test]
 fn a_file_that_cannot_be_read_is_3() {
     for file in ["/no/such/file", "/"] {
-        for command in ["run", "explain"] {
+        for command in ["run", "explain", "why", "search", "least"] {
             let ran = skein(&[command, file]);
             assert_eq!((ran.code, ran.out.as_str()), (3, ""), "{file}");
             assert!(
@@ -43,7 +43,7 @@ fn a_file_that_cannot_be_read_is_3() {
 #[test]
 fn bad_input_is_2_with_its_places() {
     let text = b"clone main\nwalk\nclone main => maybe\n";
-    for command in ["run", "explain"] {
+    for command in ["run", "explain", "why", "search", "least"] {
         for options in [&[command, "-"][..], &[command, "--json", "-"]] {
             let ran = skein_with(options, text);
             assert_eq!((ran.code, ran.out.as_str()), (2, ""));
@@ -120,10 +120,10 @@ fn a_label_whose_call_was_refused_is_bad_input() {
 #[test]
 fn unknown_words_of_the_command_line_get_the_known_ones() {
     for (words, message) in [
-        (&["walk"][..], "there is no command `walk`; expected one: run, explain, demo, import, policy\n"),
+        (&["walk"][..], "there is no command `walk`; expected one: run, explain, why, search, diff, least, demo, import, policy\n"),
         (&["Explain", "f"], "there is no command `Explain`; expected one: perhaps `explain`\n"),
         (&["run", "f", "--jsno"], "there is no option `--jsno`; expected one: perhaps `--json`\n"),
-        (&["run", "f", "--colour=never"], "there is no option `--colour=never`; expected one: --json, --all-rights, --verbose, --color, --help, --version\n"),
+        (&["run", "f", "--colour=never"], "there is no option `--colour=never`; expected one: --json, --all-rights, --verbose, --color, --thread, --entry, --html, --line, --right, --depth, --states, --from, --policy, --level, --help, --version\n"),
     ] {
         let ran = skein(words);
         assert_eq!(ran.code, 64);
@@ -212,6 +212,24 @@ fn help_and_version_are_0() {
 }
 
 #[test]
+fn each_command_has_a_help_of_its_own() {
+    for name in ["explain", "why", "search", "diff", "least"] {
+        let help = skein(&[name, "--help"]);
+        assert_eq!((help.code, help.err.as_str()), (0, ""));
+        assert!(help.out.starts_with(&format!("usage: skein {name} ")));
+        assert!(help.out.contains("Exit codes: 0 "), "{name}");
+        assert!(help
+            .out
+            .contains(&format!("docs/{}.md", name.to_uppercase())));
+        assert!(
+            help.out.lines().all(|line| line.chars().count() <= 80),
+            "{name}"
+        );
+    }
+    assert_eq!(skein(&["run", "--help"]).out, skein(&["--help"]).out);
+}
+
+#[test]
 fn the_example_of_the_help_plays() {
     let help = skein(&["--help"]).out;
     let (_, example) = help.split_once("cannot write in it\n").expect("an example");
@@ -294,7 +312,7 @@ fn junk_never_panics() {
                 .map(|c| if byte() == 0 { byte() } else { *c })
                 .collect(),
         };
-        for command in ["run", "explain"] {
+        for command in ["run", "explain", "why", "least"] {
             let code = skein_with(&[command, "-"], &junk).code;
             assert!([0, 1, 2].contains(&code), "{command} {round}: {code}");
         }

@@ -4,7 +4,7 @@ use Rattle.judge.specs.Domain.{domain}
 use Rattle.denied_rows.proofs.Kept.{live-few}
 use Rattle.verdict.specs.Denial.{threadDenial}
 use Rattle.verdict.proofs.Denials.{no-denial}
-use Rattle.batch_verdict.proofs.Walks.{entry-by, ready-then, walks-from, row-filled}
+use Rattle.batch_verdict.proofs.Walks.{entry-by, ready-then, thread-few, order-read, order-domain, row-filled}
 use Rattle.batch_verdict.proofs.entry_denial.Statement.{statement}
 use Rattle.batch_verdict.proofs.entry_denial.Tie as tie
 
@@ -14,24 +14,33 @@ entry-denial-spec =
     tie.close
     (tie.spec
     (λ c κs. tt)
-    (λ c. (rw (← c .before .youngest-of .ensures) (no-denial _ _ _ _ _ (c .if1 .taken)), c .before .before .before .before .before .before .before .before .pre .0))
-    (λ c κs. let p = c .before .before .before .before .before .before .before .before .before .before .pre in (p .0 .rows-ready, (p .1, (p .0 .highest, p .0 .kept))))
+    (λ c. (rw (← c .before .youngest-of .ensures) (no-denial _ _ _ _ _ (c .if1 .taken)), c .before .before .before .before .before .before .before .before .before .pre .0))
+    (λ c κs. let p = c .before .before .before .before .before .before .before .before .before .before .before .pre in (p .0 .rows-ready, (p .1, (p .0 .highest, p .0 .kept))))
     (λ c κs.
-    let n = c .before .before .before .before .before in
-    let p = n .before .before .before .before .before .before .before .before .before .before .before .pre in
-    (n .need-row .ensures .kept .cells, live-few _ _ _ (p .0 .rows-ready) _ (p .1)))
+    let f = c .before .before .before .before .before .before .before in
+    let p = f .before .before .before .before .before .before .before .before .before .pre in
+    (p .0 .ordered .cells, thread-few _ _ _ _ _ _ _ _ (p .0) _ (f .before .youngest-of .ensures) (f .if1 .left)))
     (λ c κs.
     let n = c .before .before .before .before .before .before in
-    let p = n .before .before .before .before .before .before .before .before .before .before .before .pre in
+    let p = n .before .before .before .before .before .before .before .before .before .before .before .before .pre in
+    (n .need-row .ensures .kept .cells, live-few _ _ _ (p .0 .rows-ready) _ (p .1)))
+    (λ c κs.
+    let o = c .before .before in
+    let n = o .before .before .before .before .before in
+    let f = n .before .before .before in
+    let p = f .before .before .before .before .before .before .before .before .before .pre in
     let A = n .need-row .ensures in
-    (walks-from _ _ _ _ _ _ _ (p .0) _ (n .before .before .before .before .youngest-of .ensures), row-filled _ _ _ (p .0 .rows-ready) (A .kept) (p .1) (A .filled) (c .row-of .ensures) .long))
+    (order-read _ _ _ _ _ _ _ _ (p .0) _ (f .before .youngest-of .ensures) (f .if1 .left) (o .order-of .ensures), row-filled _ _ _ (p .0 .rows-ready) (A .kept) (p .1) (A .filled) (c .row-of .ensures) .long))
     (λ c. search needs)
     (λ c. search needs)
     (λ c.
-    let n = c .before .before .before .before .before .before .before in
-    let s = n .before .before .before .before .before .before .before .before .before .before .before in
+    let o = c .before .before .before in
+    let n = o .before .before .before .before .before in
+    let f = n .before .before .before in
+    let s = f .before .before .before .before .before .before .before .before .before in
     let a = s .args in
     let p = s .pre in
     let A = n .need-row .ensures in
     let R = row-filled _ _ _ (p .0 .rows-ready) (A .kept) (p .1) (A .filled) (c .before .row-of .ensures) in
-    (entry-by _ _ _ (a .threads .now) (a .t) (p .0 .walks (a .t)) (c .before .row-of .result .now) (a .e) (a .asked) R (n .before .before .before .before .youngest-of .ensures) (c .entry-walk .ensures), ready-then _ _ _ _ _ _ _ (p .0) A)))
+    let D = order-domain _ _ _ _ _ _ _ _ (p .0) _ (f .before .youngest-of .ensures) (f .if1 .left) (o .order-of .ensures) in
+    (entry-by _ _ _ (a .threads .now) (a .t) (p .0 .walks (a .t)) D (c .before .row-of .result .now) (a .e) (a .asked) R (c .entry-walk .ensures), ready-then _ _ _ _ _ _ _ _ (p .0) A)))

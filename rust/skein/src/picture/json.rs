@@ -1,8 +1,8 @@
 //! The picture as JSON.
-use super::{Explained, Held, LayerView, Node, PortView, ScopeView, ThreadView};
+use super::{Explained, Held, LayerView, Node, PortView, RuleView, ScopeView, ThreadView};
 use crate::json::Json;
 use crate::play::Play;
-use crate::transcript::{call_json, rights_json};
+use crate::transcript::{call_json, rights_json, rule_members};
 use skeinrabbit::{Entry, Layer};
 
 /// The members of the JSON document of `skein explain`; its lists are empty where there is no picture.
@@ -92,7 +92,17 @@ fn layer_json(view: &LayerView) -> Json {
             "children",
             Json::list(&view.children, |layer| Json::Number(layer.number())),
         ),
+        ("fs", rights_json(view.row.attribute.fs.iter())),
+        ("net", rights_json(view.row.attribute.net.iter())),
+        ("scope", rights_json(view.row.attribute.scope.iter())),
+        ("rules", Json::list(&view.rules, rule_view_json)),
     ])
+}
+
+fn rule_view_json(view: &RuleView) -> Json {
+    let (place, rights) = rule_members(&view.rule);
+    let paths = Json::list(&view.paths, Json::text);
+    Json::Object(vec![place, ("paths", paths), ("rights", rights)])
 }
 
 fn scope_json(view: &ScopeView, threads: &[ThreadView]) -> Json {

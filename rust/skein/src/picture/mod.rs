@@ -1,20 +1,87 @@
 //! What a scenario leaves: what each thread may do at each entry and port, asked of the core.
+mod detail;
+mod html;
 mod json;
+mod letters;
 mod text;
 mod tree;
 
 pub use json::json;
-pub use text::text;
-pub use tree::Node;
+pub use text::{heading, text};
+pub use tree::{is_above, Node};
 
+use crate::messages::{not_as_written, not_drawn};
+use crate::named::{entries, threads};
+use crate::outcome::{Outcome, View, BAD_INPUT, DIFFERS, UNREADABLE};
 use crate::play::{reach, Play, Player};
 use crate::scenario::Space;
+use crate::words::escaped;
 use skeinrabbit::{
     EntryRow, Layer, LayerRow, Level, PortRights, Refusal, Rights, Rule, Scopes, Tables, Thread,
     ThreadRow,
 };
 use std::collections::{BTreeMap, BTreeSet};
+use std::ffi::{OsStr, OsString};
 use std::ops::BitOrAssign;
+
+/// What is asked about beside the whole: threads and entries in detail, or a page.
+#[derive(Debug, Default, PartialEq, Eq)]
+pub struct Chosen {
+    pub threads: Vec<String>,
+    pub entries: Vec<String>,
+    pub html: Option<OsString>,
+}
+
+/// Draws what a play leaves, or says why not.
+pub fn explain(view: &View, name: &str, mut play: Play, chosen: &Chosen) -> Outcome {
+    let mut explained = Explained::of(&mut play, view.all_rights);
+    let in_detail = match explained.choose(&play.player, chosen) {
+        Ok(in_detail) => in_detail,
+        Err(message) => return Outcome::bad_file(name, message),
+    };
+    if play.stopped.is_none() {
+        if let Some(file) = &chosen.html {
+            return page(file, name, &play, &explained);
+        }
+    }
+    let output = match (view.json, &play.stopped) {
+        (_, Some(_)) => String::new(),
+        (true, None) => format!("{}\n", json(name, &play, &explained)),
+        (false, None) if in_detail => detail::text(&explained, chosen, view),
+        (false, None) => text(&explained, view.width, view.paint),
+    };
+    not_drawn_outcome(name, &play)
+        .unwrap_or_default()
+        .with_output(output)
+}
+
+/// What is said of a play that is not as it is written.
+fn not_drawn_outcome(name: &str, play: &Play) -> Option<Outcome> {
+    let mut messages = not_as_written(name, play)?;
+    if play.stopped.is_some() {
+        return Some(Outcome::refused(messages, BAD_INPUT));
+    }
+    messages.push_str(&not_drawn(name));
+    Some(Outcome::refused(messages, DIFFERS))
+}
+
+/// Writes the page, to standard output where the file is a dash.
+fn page(file: &OsStr, name: &str, play: &Play, explained: &Explained) -> Outcome {
+    if let Some(outcome) = not_drawn_outcome(name, play) {
+        return outcome;
+    }
+    let page = html::page(name, explained);
+    if file == "-" {
+        return Outcome::output(page);
+    }
+    match std::fs::write(file, page) {
+        Ok(()) => Outcome::default(),
+        Err(error) => {
+            let file = escaped(&file.to_string_lossy());
+            Outcome::refused(format!("skein: {file}: {error}\n"), UNREADABLE)
+        }
+    }
+}
 
 /// What a scenario leaves, as far as it may be shown.
 pub struct Explained {
@@ -36,6 +103,22 @@ impl Explained {
             sound,
             picture: (sound && as_expected).then(|| Picture::ask(player, all_rights)),
         }
+    }
+
+    /// Keeps the threads and entries that are asked about; answers whether some are.
+    fn choose(&mut self, player: &Player, chosen: &Chosen) -> Result<bool, String> {
+        let Some(picture) = &mut self.picture else {
+            return Ok(false);
+        };
+        let threads = threads(player, &chosen.threads)?;
+        let entries = entries(player, &chosen.entries)?;
+        if !threads.is_empty() {
+            picture.keep_threads(|view| threads.contains(&view.row.thread));
+        }
+        if !entries.is_empty() {
+            picture.keep_entries(|node| entries.contains(&node.row.entry));
+        }
+        Ok(!threads.is_empty() || !entries.is_empty())
     }
 }
 
@@ -70,6 +153,23 @@ pub struct LayerView {
     pub threads: Vec<Thread>,
     /// The layers whose parent it is.
     pub children: Vec<Layer>,
+    pub rules: Vec<RuleView>,
+}
+
+/// A rule of a layer, with the paths of the entries of its object; there are none where all are gone, or at a port.
+pub struct RuleView {
+    pub rule: Rule,
+    pub paths: Vec<String>,
+}
+
+impl LayerView {
+    /// The rights at entries that it handles, asked or not.
+    pub fn handled(&self) -> Rights {
+        match self.row.attribute.fs {
+            Rights::NONE => Rights::NONE,
+            asked => asked | Rights::REFER,
+        }
+    }
 }
 
 /// Which threads reach which, by a scope.
@@ -86,6 +186,14 @@ pub struct Held<R> {
     pub denied: R,
     /// Who denies it: for each right the youngest layer that does.
     pub by: BTreeMap<Layer, R>,
+}
+
+impl ThreadView {
+    /// Its name, or else its number.
+    pub fn label(&self) -> String {
+        let number = || self.row.thread.to_string();
+        self.name.clone().unwrap_or_else(number)
+    }
 }
 
 impl<R: BitOrAssign + Copy + Default> Held<R> {
@@ -110,7 +218,8 @@ pub struct PortView {
 }
 
 impl Picture {
-    fn ask(player: &mut Player, all_rights: bool) -> Picture {
+    /// Asks the core for everything.
+    pub fn ask(player: &mut Player, all_rights: bool) -> Picture {
         let columns = if all_rights {
             Rights::ALL
         } else {
@@ -135,12 +244,35 @@ impl Picture {
         let threads = threads.collect();
         Picture {
             columns,
-            nodes,
             threads,
-            layers: layer_views(&player.tables),
+            layers: layer_views(&player.tables, &nodes),
             scopes: scope_views(&player.tables),
+            nodes,
         }
     }
+
+    fn keep_threads(&mut self, keep: impl Fn(&ThreadView) -> bool) {
+        let kept: Vec<bool> = self.threads.iter().map(keep).collect();
+        retain(&mut self.threads, &kept);
+        for scope in &mut self.scopes {
+            retain(&mut scope.reached, &kept);
+            scope.reached.iter_mut().for_each(|row| retain(row, &kept));
+        }
+    }
+
+    fn keep_entries(&mut self, keep: impl Fn(&Node) -> bool) {
+        let kept: Vec<bool> = self.nodes.iter().map(keep).collect();
+        retain(&mut self.nodes, &kept);
+        for view in &mut self.threads {
+            retain(&mut view.entries, &kept);
+        }
+    }
+}
+
+/// Keeps the values that are marked.
+fn retain<T>(values: &mut Vec<T>, kept: &[bool]) {
+    let mut kept = kept.iter();
+    values.retain(|_| kept.next().copied().unwrap_or(false));
 }
 
 /// The rights that some layer handles, REFER among them where there is a layer.
@@ -158,7 +290,11 @@ fn domain(tables: &Tables, thread: Thread) -> Vec<Layer> {
     layers
 }
 
-fn layer_views(tables: &Tables) -> Vec<LayerView> {
+fn layer_views(tables: &Tables, nodes: &[Node]) -> Vec<LayerView> {
+    let rules = |layer| {
+        let rules = tables.layer_rules(layer).into_iter().flatten();
+        rules.map(|rule| rule_view(rule, nodes)).collect()
+    };
     let views = tables.layers().map(|row| {
         let held = Some(row.layer);
         let threads = tables.threads().filter(|thread| thread.youngest == held);
@@ -167,9 +303,19 @@ fn layer_views(tables: &Tables) -> Vec<LayerView> {
             row,
             threads: threads.map(|thread| thread.thread).collect(),
             children: children.map(|layer| layer.layer).collect(),
+            rules: rules(row.layer),
         }
     });
     views.collect()
+}
+
+fn rule_view(rule: Rule, nodes: &[Node]) -> RuleView {
+    let at = |node: &&Node| matches!(rule, Rule::Path { object, .. } if object == node.row.object);
+    let paths = nodes.iter().filter(at).map(|node| node.path.clone());
+    RuleView {
+        rule,
+        paths: paths.collect(),
+    }
 }
 
 /// Every thread asked for every thread, by each scope that some layer handles.

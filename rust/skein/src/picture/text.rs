@@ -1,12 +1,15 @@
-//! The picture in plain text.
-use super::{Explained, Held, LayerView, Node, Picture, ScopeView, ThreadView};
+//! The picture at a glance: what each thread may do where, a letter for each right; then the layers and the scopes.
+use super::letters::{at_entry, at_port, of_files, of_ports, Mark};
+use super::{Explained, LayerView, Node, Picture, RuleView, ScopeView, ThreadView};
 use crate::lines::broken;
 use crate::paint::Paint;
 use crate::words::{cut, shown};
-use skeinrabbit::{PortRights, Rights};
+use skeinrabbit::Rule;
 use std::fmt::Display;
 
-/// The widest name of a thread.
+/// The widest name of a thread above a column.
+const WIDEST_COLUMN: usize = 16;
+/// The widest name of a thread elsewhere.
 const WIDEST_THREAD: usize = 40;
 /// The same where names stand at two sides of a matrix.
 const WIDEST_REACHED: usize = 30;
@@ -20,39 +23,277 @@ pub fn text(explained: &Explained, width: usize, paint: Paint) -> String {
     }
 }
 
-/// The tree with a matrix of rights for each thread, then the layers, the ports and the scopes.
 fn picture_text(picture: &Picture, width: usize, paint: Paint) -> String {
-    let left = Left::of(picture, width);
-    let mut out = String::new();
-    if picture.columns.is_empty() {
-        out.push_str(&left.matrix(picture, None, paint));
-        out.push_str(
-            "\nNo layer handles a right at entries: every thread may do everything there.\n",
-        );
-    } else {
-        for view in &picture.threads {
-            out.push_str(&heading(&thread_line(view), width, paint));
-            out.push_str(&left.matrix(picture, Some(view), paint));
-            out.push('\n');
-        }
-        out.push_str("+ granted   - denied   blank: not a right of this kind of entry\n");
+    let mut out = entries(picture, width, paint);
+    out.push_str(&ports(picture, width, paint));
+    out.push_str(&threads(picture, width, paint));
+    for view in &picture.layers {
+        out.push_str(&layer(view, &picture.threads, width, paint));
     }
-    if picture.nodes.iter().any(|node| node.links > 1) {
-        out.push_str("×N: an object with N entries (hard links)\n");
-    }
-    if picture.nodes.iter().any(|node| !is_drawn(node, left.tree)) {
-        out.push_str("…N: an entry with N directories above it, too deep to be drawn\n");
-    }
-    out.push_str(&layers(picture, width, paint));
-    out.push_str(&ports(picture, paint));
     for view in &picture.scopes {
         out.push_str(&scope(view, &picture.threads, width, paint));
     }
     out
 }
 
+/// Rows by threads, with marks for the rights.
+struct Matrix {
+    /// What the rows are.
+    title: &'static str,
+    rows: Vec<String>,
+    columns: Vec<String>,
+    /// For each column the marks of each row.
+    cells: Vec<Vec<Vec<Mark>>>,
+}
+
+impl Matrix {
+    /// The matrix in as many parts as the width asks for.
+    fn text(&self, width: usize, paint: Paint) -> String {
+        let widest = |texts: &mut dyn Iterator<Item = usize>| texts.max().unwrap_or(0);
+        let rights = self.cells.iter().flatten().map(Vec::len).max().unwrap_or(0);
+        let room = rights.max(WIDEST_COLUMN);
+        let names: Vec<String> = self.columns.iter().map(|name| shown(name, room)).collect();
+        let column = widest(&mut names.iter().map(|name| name.chars().count())).max(rights);
+        let rows = widest(&mut self.rows.iter().map(|row| row.chars().count()));
+        // Long paths leave room for all columns, or for some of them.
+        let room = width.saturating_sub(names.len() * (column + 2));
+        let left = rows.max(self.title.len()).min(room.max(width * 2 / 5));
+        let fit = (width.saturating_sub(left) / (column + 2)).max(1);
+        let parts = names.chunks(fit).zip(self.cells.chunks(fit));
+        let parts = parts.map(|(names, cells)| {
+            let names: Vec<String> = names
+                .iter()
+                .map(|name| format!("{name:<column$}"))
+                .collect();
+            let heading = format!("{:<left$}  {}", self.title, names.join("  "));
+            let mut part = format!("{}\n", paint.heading(heading.trim_end()));
+            for (place, row) in self.rows.iter().enumerate() {
+                let cells = cells
+                    .iter()
+                    .map(|cells| cell(cells.get(place), column, paint));
+                let cells: Vec<String> = cells.collect();
+                let line = format!("{:<left$}  {}", tail(row, left), cells.join("  "));
+                push_trimmed(&mut part, &line);
+            }
+            part
+        });
+        parts.collect::<Vec<String>>().join("\n")
+    }
+}
+
+fn cell(marks: Option<&Vec<Mark>>, width: usize, paint: Paint) -> String {
+    let marks = marks.map_or(&[][..], Vec::as_slice);
+    let letters = marks.iter().map(|mark| {
+        let letter = mark.letter().to_string();
+        match mark {
+            Mark::Granted(_) => paint.granted(&letter),
+            Mark::Denied(_) => paint.denied(&letter),
+            Mark::Other => letter,
+        }
+    });
+    let blanks = " ".repeat(width.saturating_sub(marks.len()));
+    letters.chain([blanks]).collect()
+}
+
+/// The end of a word that is too wide, behind a mark.
+fn tail(word: &str, widest: usize) -> String {
+    let wide = word.chars().count();
+    if wide <= widest {
+        return word.to_owned();
+    }
+    let dropped = wide + 1 - widest;
+    ['…']
+        .into_iter()
+        .chain(word.chars().skip(dropped))
+        .collect()
+}
+
+/// An entry's path, and how many entries its object has.
+fn path(node: &Node) -> String {
+    match node.links {
+        1 => node.path.clone(),
+        links => format!("{} ×{links}", node.path),
+    }
+}
+
+fn entries(picture: &Picture, width: usize, paint: Paint) -> String {
+    let views = picture.threads.iter();
+    let marks = |view: &ThreadView| {
+        let held = view.entries.iter();
+        held.map(|held| at_entry(picture.columns, held)).collect()
+    };
+    let handled = !picture.columns.is_empty();
+    let matrix = Matrix {
+        title: "entry",
+        rows: picture.nodes.iter().map(path).collect(),
+        columns: views
+            .clone()
+            .filter(|_| handled)
+            .map(ThreadView::label)
+            .collect(),
+        cells: views.filter(|_| handled).map(marks).collect(),
+    };
+    let mut out = String::new();
+    if handled {
+        out.push_str(&matrix.text(width, paint));
+        let letters = legend(&of_files(picture.columns), width);
+        out.push_str(&format!("\n{letters}"));
+        out.push_str("- denied  . not a right of this kind of entry\n");
+    } else {
+        let paths = matrix.rows.iter();
+        let paths = paths.map(|row| format!("{}\n", tail(row, width)));
+        out.extend(
+            [format!("{}\n", paint.heading("entry"))]
+                .into_iter()
+                .chain(paths),
+        );
+        out.push_str(
+            "\nNo layer handles a right at entries: every thread may do everything there.\n",
+        );
+    }
+    if picture.nodes.iter().any(|node| node.links > 1) {
+        out.push_str("×N: an object with N entries (hard links)\n");
+    }
+    out
+}
+
+/// Letters with the names of their rights; no line is broken between the two.
+fn legend(letters: &[(char, String)], width: usize) -> String {
+    const TIED: char = '\u{a0}';
+    let named = letters
+        .iter()
+        .map(|(letter, name)| format!("{letter}{TIED}{name}"));
+    let line = named.collect::<Vec<String>>().join("  ");
+    broken(&line, 0, width).replace(TIED, " ")
+}
+
+fn ports(picture: &Picture, width: usize, paint: Paint) -> String {
+    let mut layers = picture.layers.iter();
+    if !layers.any(|view| !view.row.attribute.net.is_empty()) {
+        return "\nNo layer handles a right at ports: every thread may use every port.\n"
+            .to_owned();
+    }
+    let views = picture.threads.iter();
+    let first = picture.threads.first().map_or(&[][..], |view| &view.ports);
+    let port = |port: Option<u64>| port.map_or("other".to_owned(), |port| port.to_string());
+    let matrix = Matrix {
+        title: "port",
+        rows: first.iter().map(|at| port(at.port)).collect(),
+        columns: views.clone().map(ThreadView::label).collect(),
+        cells: views
+            .map(|view| view.ports.iter().map(|at| at_port(&at.held)).collect())
+            .collect(),
+    };
+    let letters = legend(&of_ports(), width);
+    format!("\n{}\n{letters}", matrix.text(width, paint))
+}
+
+/// The threads with their layers and marks.
+fn threads(picture: &Picture, width: usize, paint: Paint) -> String {
+    let names = picture.threads.iter();
+    let names = names.map(|view| shown(&view.label(), WIDEST_THREAD).chars().count());
+    let left = names.max().unwrap_or(0).max("thread".len());
+    let heading = format!("{:<left$}  layers, oldest first", "thread");
+    let mut out = format!("\n{}\n", paint.heading(&heading));
+    for view in &picture.threads {
+        let name = shown(&view.label(), WIDEST_THREAD);
+        let line = format!("{name:<left$}  {}", domain(view));
+        out.push_str(&broken(&line, left + 2, width));
+    }
+    out
+}
+
+/// A thread's layers and marks.
+pub fn domain(view: &ThreadView) -> String {
+    let layers: Vec<String> = view.layers.iter().map(ToString::to_string).collect();
+    let mut text = match layers.len() {
+        0 => "none".to_owned(),
+        _ => layers.join(" "),
+    };
+    for (set, mark) in [
+        (view.row.no_new_privs, "no_new_privs"),
+        (view.row.admin, "admin"),
+    ] {
+        if set {
+            text.push_str(&format!("; {mark}"));
+        }
+    }
+    text
+}
+
+/// What a layer handles and grants, and who holds it.
+fn layer(view: &LayerView, threads: &[ThreadView], width: usize, paint: Paint) -> String {
+    let above = match view.row.parent {
+        Some(parent) => format!(" below layer {parent}"),
+        None => String::new(),
+    };
+    let title = format!(
+        "layer {}{above}, held by {}",
+        view.row.layer,
+        holders(view, threads)
+    );
+    let mut out = format!("\n{}", heading(&title, width, paint));
+    out.push_str(&broken(&format!("  handles {}", handled(view)), 4, width));
+    let places: Vec<String> = view.rules.iter().map(place).collect();
+    let widths = places.iter().map(|place| place.chars().count());
+    let left = widths.filter(|wide| *wide <= width / 2).max().unwrap_or(0);
+    for (place, rule) in places.iter().zip(&view.rules) {
+        let place = tail(place, width.saturating_sub(8));
+        let line = format!("  {place:<left$}  {}", rights(&rule.rule));
+        out.push_str(&broken(&line, 6, width));
+    }
+    if view.rules.is_empty() {
+        out.push_str("  no rules\n");
+    }
+    out
+}
+
+/// What a layer handles, in words.
+pub fn handled(view: &LayerView) -> String {
+    let attribute = view.row.attribute;
+    let unasked = view.handled() - attribute.fs;
+    let parts = [
+        (!attribute.fs.is_empty()).then(|| attribute.fs.to_string()),
+        (!unasked.is_empty()).then(|| format!("{unasked} unasked")),
+        (!attribute.net.is_empty()).then(|| attribute.net.to_string()),
+        (!attribute.scope.is_empty()).then(|| format!("scope {}", attribute.scope)),
+    ];
+    parts
+        .into_iter()
+        .flatten()
+        .collect::<Vec<String>>()
+        .join("; ")
+}
+
+/// Where a rule is.
+pub fn place(view: &RuleView) -> String {
+    match (&view.rule, view.paths.as_slice()) {
+        (Rule::Port { port, .. }, _) => format!("port {port}"),
+        (Rule::Path { object, .. }, []) => format!("object {object}, with no entry left"),
+        (Rule::Path { .. }, paths) => paths.join(" = "),
+    }
+}
+
+pub fn rights(rule: &Rule) -> String {
+    match rule {
+        Rule::Path { rights, .. } => rights.to_string(),
+        Rule::Port { rights, .. } => rights.to_string(),
+    }
+}
+
+pub fn holders(view: &LayerView, threads: &[ThreadView]) -> String {
+    let label = |number| {
+        let view = threads.iter().find(|view| view.row.thread == number);
+        let label = view.map_or_else(|| number.to_string(), ThreadView::label);
+        format!("thread {}", shown(&label, WIDEST_THREAD))
+    };
+    let threads = view.threads.iter().map(|number| label(*number));
+    let children = view.children.iter().map(|layer| format!("layer {layer}"));
+    threads.chain(children).collect::<Vec<String>>().join(", ")
+}
+
 /// A heading, broken where it is too wide.
-fn heading(text: &str, width: usize, paint: Paint) -> String {
+pub fn heading(text: &str, width: usize, paint: Paint) -> String {
     let lines = broken(text, 2, width);
     let painted = lines
         .lines()
@@ -60,129 +301,8 @@ fn heading(text: &str, width: usize, paint: Paint) -> String {
     painted.collect()
 }
 
-/// A thread with its layers and marks.
-fn thread_line(view: &ThreadView) -> String {
-    let layers: Vec<String> = view.layers.iter().map(ToString::to_string).collect();
-    let layers = match layers.len() {
-        0 => "no layer".to_owned(),
-        1 => format!("layer {}", layers.concat()),
-        _ => format!("layers {}, oldest first", layers.join(" ")),
-    };
-    let mut rest = layers;
-    for (set, mark) in [
-        (view.row.no_new_privs, "no_new_privs"),
-        (view.row.admin, "admin"),
-    ] {
-        if set {
-            rest.push_str(&format!("; {mark}"));
-        }
-    }
-    format!("thread {}: {rest}", label(view))
-}
-
-/// A thread's name, or else its number.
-fn label(view: &ThreadView) -> String {
-    label_within(view, WIDEST_THREAD)
-}
-
-fn label_within(view: &ThreadView, widest: usize) -> String {
-    let number = || view.row.thread.to_string();
-    shown(&view.name.clone().unwrap_or_else(number), widest)
-}
-
-/// Whether the lines that lead to an entry leave room for its name, or for the beginning of a long one.
-fn is_drawn(node: &Node, widest: usize) -> bool {
-    let beginning = node.name.chars().count().min(6);
-    node.branch.chars().count() + beginning <= widest
-}
-
-/// An entry's name, behind the lines that lead to it or, where these are too long, its depth.
-fn entry_label(node: &Node, widest: usize) -> String {
-    let name = node.name.as_str();
-    if is_drawn(node, widest) {
-        let room = widest.saturating_sub(node.branch.chars().count());
-        format!("{}{}", node.branch, cut(name, room))
-    } else {
-        cut(&format!("…{} {name}", node.depth), widest)
-    }
-}
-
-fn object_label(node: &Node) -> String {
-    match node.links {
-        1 => node.row.object.to_string(),
-        links => format!("{} ×{links}", node.row.object),
-    }
-}
-
-/// The widths of the columns left of the matrix.
-struct Left {
-    tree: usize,
-    object: usize,
-}
-
-impl Left {
-    fn of(picture: &Picture, width: usize) -> Left {
-        let widest = |widths: &mut dyn Iterator<Item = usize>| widths.max().unwrap_or(0);
-        let mut objects = picture
-            .nodes
-            .iter()
-            .map(|node| object_label(node).chars().count());
-        let object = widest(&mut objects).max("object".len());
-        let stairs = picture.columns.iter().enumerate();
-        let matrix = widest(&mut stairs.map(|(place, right)| 2 * place + right.to_string().len()));
-        // What a line leaves for the tree, between number, kind and the blanks.
-        let without_tree = Left { tree: 0, object }
-            .line("", "", "", "")
-            .chars()
-            .count()
-            + 2
-            + matrix;
-        let room = width.saturating_sub(without_tree);
-        let mut trees = picture
-            .nodes
-            .iter()
-            .map(|node| entry_label(node, room).chars().count());
-        let tree = widest(&mut trees).max("entry".len());
-        Left { tree, object }
-    }
-
-    fn line(&self, entry: &str, number: &str, kind: &str, object: &str) -> String {
-        let (tree, width) = (self.tree, self.object);
-        format!("{entry:<tree$}  {number:>4}  {kind:<9}  {object:<width$}")
-    }
-
-    /// The names of the rights as stairs, then a line for each entry.
-    fn matrix(&self, picture: &Picture, view: Option<&ThreadView>, paint: Paint) -> String {
-        let rights: Vec<Rights> = picture.columns.iter().collect();
-        let blank = self.line("", "", "", "");
-        let heading = self.line("entry", "no", "kind", "object");
-        let mut out = stairs(&blank, &heading, &rights);
-        for (place, node) in picture.nodes.iter().enumerate() {
-            let number = node.row.entry.to_string();
-            let kind = node.row.kind.to_string();
-            let entry = self.line(
-                &entry_label(node, self.tree),
-                &number,
-                &kind,
-                &object_label(node),
-            );
-            let held = view.and_then(|view| view.entries.get(place));
-            let marks: Vec<String> = held
-                .map(|held| {
-                    rights
-                        .iter()
-                        .map(|right| mark(held, *right, paint))
-                        .collect()
-                })
-                .unwrap_or_default();
-            push_trimmed(&mut out, &format!("{entry}  {}", marks.join(" ")));
-        }
-        out
-    }
-}
-
 /// The names of a matrix's columns, one below the other, then the heading of what stands left of it.
-fn stairs(blank: &str, heading: &str, names: &[impl Display]) -> String {
+pub fn stairs(blank: &str, heading: &str, names: &[impl Display]) -> String {
     let mut out = String::new();
     for (place, name) in names.iter().enumerate() {
         out.push_str(&format!("{blank}  {}{name}\n", "│ ".repeat(place)));
@@ -192,64 +312,24 @@ fn stairs(blank: &str, heading: &str, names: &[impl Display]) -> String {
     out
 }
 
-fn push_trimmed(out: &mut String, line: &str) {
+pub fn push_trimmed(out: &mut String, line: &str) {
     out.push_str(line.trim_end());
     out.push('\n');
 }
 
-fn mark(held: &Held<Rights>, right: Rights, paint: Paint) -> String {
-    if held.granted.contains(right) {
-        paint.granted("+")
-    } else if held.denied.contains(right) {
-        paint.denied("-")
-    } else {
-        " ".to_owned()
-    }
-}
-
-/// For each layer how many hold it, and which threads and layers these are.
-fn layers(picture: &Picture, width: usize, paint: Paint) -> String {
-    let mut out = String::new();
-    if !picture.layers.is_empty() {
-        out.push_str(&format!("\n{}\n", paint.heading("layer  holders")));
-    }
-    for view in &picture.layers {
-        let number = view.row.layer.to_string();
-        let line = format!("{number:<5}  {}", holders(view, &picture.threads));
-        out.push_str(&broken(&line, 9, width));
-    }
-    out
-}
-
-fn holders(view: &LayerView, threads: &[ThreadView]) -> String {
-    let threads = threads
-        .iter()
-        .filter(|thread| view.threads.contains(&thread.row.thread))
-        .map(|thread| format!("thread {}", label(thread)));
-    let children = view.children.iter().map(|layer| format!("layer {layer}"));
-    let all: Vec<String> = threads.chain(children).collect();
-    format!("{}: {}", view.row.holders, all.join(", "))
-}
-
-/// For each thread the ports that a rule names, and all others as one.
-fn ports(picture: &Picture, paint: Paint) -> String {
-    let widths = picture
-        .threads
-        .iter()
-        .map(|view| label(view).chars().count());
-    let width = widths.max().unwrap_or(0).max("ports of".len());
-    let heading = format!("{:<width$}  port   bind_tcp  connect_tcp", "ports of");
-    let mut out = format!("\n{}\n", paint.heading(&heading));
-    for view in &picture.threads {
-        for at in &view.ports {
-            let port = at.port.map_or("other".to_owned(), |port| port.to_string());
-            let sign = |right: PortRights| sign(at.held.granted.contains(right), paint);
-            let (bind, connect) = (sign(PortRights::BIND_TCP), sign(PortRights::CONNECT_TCP));
-            let label = label(view);
-            out.push_str(&format!(
-                "{label:<width$}  {port:<5}  {bind}         {connect}\n"
-            ));
-        }
+/// A line for each thread with what it reaches by a scope, a column for each thread.
+fn scope(view: &ScopeView, threads: &[ThreadView], width: usize, paint: Paint) -> String {
+    let names = threads.iter();
+    let names: Vec<String> = names.map(|to| shown(&to.label(), WIDEST_REACHED)).collect();
+    let widths = names.iter().map(|name| name.chars().count());
+    let left = widths.max().unwrap_or(0).max("thread".len());
+    let title = format!("{}: which thread (row) reaches which (column)", view.scope);
+    let mut out = format!("\n{}", heading(&title, width, paint));
+    let [blank, first] = ["", "thread"].map(|text| format!("{text:<left$}"));
+    out.push_str(&stairs(&blank, &first, &names));
+    for (name, reached) in names.iter().zip(&view.reached) {
+        let signs: Vec<String> = reached.iter().map(|to| sign(*to, paint)).collect();
+        out.push_str(&format!("{name:<left$}  {}\n", signs.join(" ")));
     }
     out
 }
@@ -262,19 +342,19 @@ fn sign(granted: bool, paint: Paint) -> String {
     }
 }
 
-/// A line for each thread with what it reaches by a scope, a column for each thread.
-fn scope(view: &ScopeView, threads: &[ThreadView], width: usize, paint: Paint) -> String {
-    let names = threads.iter();
-    let names: Vec<String> = names.map(|to| label_within(to, WIDEST_REACHED)).collect();
-    let widths = names.iter().map(|name| name.chars().count());
-    let left = widths.max().unwrap_or(0).max("thread".len());
-    let title = format!("{}: which thread (row) reaches which (column)", view.scope);
-    let mut out = format!("\n{}", heading(&title, width, paint));
-    let [blank, first] = ["", "thread"].map(|text| format!("{text:<left$}"));
-    out.push_str(&stairs(&blank, &first, &names));
-    for (name, reached) in names.iter().zip(&view.reached) {
-        let signs: Vec<String> = reached.iter().map(|to| sign(*to, paint)).collect();
-        out.push_str(&format!("{name:<left$}  {}\n", signs.join(" ")));
+/// An entry's name, behind the lines that lead to it or, where these are too long, its depth.
+pub fn entry_label(node: &Node, widest: usize) -> String {
+    let name = node.name.as_str();
+    if is_drawn(node, widest) {
+        let room = widest.saturating_sub(node.branch.chars().count());
+        format!("{}{}", node.branch, cut(name, room))
+    } else {
+        cut(&format!("…{} {name}", node.depth), widest)
     }
-    out
+}
+
+/// Whether the lines that lead to an entry leave room for its name, or for the beginning of a long one.
+pub fn is_drawn(node: &Node, widest: usize) -> bool {
+    let beginning = node.name.chars().count().min(6);
+    node.branch.chars().count() + beginning <= widest
 }

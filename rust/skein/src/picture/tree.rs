@@ -60,6 +60,12 @@ pub fn nodes(tables: &Tables, names: &Names) -> Vec<Node> {
     nodes
 }
 
+/// Whether a path is another one or leads to it.
+pub fn is_above(path: &str, other: &str) -> bool {
+    let rest = other.strip_prefix(path);
+    path == "/" || rest.is_some_and(|rest| rest.is_empty() || rest.starts_with('/'))
+}
+
 /// An entry that is still to be drawn.
 struct Place {
     row: EntryRow,

@@ -46,7 +46,7 @@ pub fn perform(command: &PolicyCommand) -> Outcome {
 }
 
 /// What a command writes, or what it leaves instead.
-type Done<T> = Result<T, Outcome>;
+pub type Done<T> = Result<T, Outcome>;
 
 fn refused(messages: String, code: u8) -> Outcome {
     Outcome {
@@ -77,7 +77,7 @@ fn load(file: &OsStr) -> Done<Vec<u8>> {
 }
 
 /// The bytes of a policy file that nothing is wrong with.
-fn fine(file: &OsStr) -> Done<Vec<u8>> {
+pub fn fine(file: &OsStr) -> Done<Vec<u8>> {
     let bytes = load(file)?;
     match find_policy(&bytes, &[], "") {
         // No ruleset has an empty name.

@@ -1,12 +1,16 @@
 //! Policy files: read, checked, shown as text and built from it.
 mod command;
 mod fault;
+mod meaning;
 mod source;
 mod text;
 
-pub use command::{perform, PolicyCommand};
+pub use command::{fine, perform, PolicyCommand};
 pub use fault::fault;
+pub use meaning::{rulesets, Ruleset};
 pub use source::{read, Unread};
+
+use skeinrabbit::{Attribute, PortRights, Rights, Scopes};
 
 /// The tags of fields.
 const RULESET: u8 = 1;
@@ -65,6 +69,33 @@ impl<'f> Field<'f> {
     fn inside(self) -> &'f [u8] {
         self.value.get(1..).unwrap_or_default()
     }
+
+    /// The level of a group.
+    fn level(self) -> u8 {
+        self.value.first().copied().unwrap_or_default()
+    }
+
+    /// The rights of a rule, and the bytes of its path or port.
+    fn rule(self) -> (u64, &'f [u8]) {
+        let split = self.value.split_at_checked(RIGHTS_SIZE);
+        let (rights, rest) = split.unwrap_or((self.value, &[]));
+        (little_endian(rights), rest)
+    }
+
+    fn masks(self) -> Attribute {
+        let mut masks = self.value.chunks(RIGHTS_SIZE).map(little_endian);
+        let mut next = || masks.next().unwrap_or_default();
+        Attribute {
+            fs: Rights::from_bits(next()),
+            net: PortRights::from_bits(next()),
+            scope: Scopes::from_bits(next()),
+        }
+    }
+}
+
+fn little_endian(bytes: &[u8]) -> u64 {
+    let bytes = bytes.iter().rev();
+    bytes.fold(0, |number, byte| number << 8 | u64::from(*byte))
 }
 
 /// The whole fields at the start of some bytes, the first of which stands at a place.

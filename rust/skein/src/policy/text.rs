@@ -1,6 +1,6 @@
 //! Policy files as text, one field to a line.
 use super::{
-    fault, fields, Field, GROUP, HEADER, LONGEST_FILE, MASKS, PATH_RULE, PORT_RULE, RIGHTS_SIZE,
+    fault, fields, little_endian, Field, GROUP, HEADER, LONGEST_FILE, MASKS, PATH_RULE, PORT_RULE,
     RULESET,
 };
 use crate::scenario::{number, value, words_of, written, Bad, BadLine, Named, Text};
@@ -215,8 +215,7 @@ fn put_lines(text: &mut String, field: Field, around: usize) {
         text.push_str(&format!("{indent}{}\n", line(field)));
         return;
     }
-    let level = field.value.first().copied().unwrap_or_default();
-    text.push_str(&format!("{indent}group {level}\n"));
+    text.push_str(&format!("{indent}group {}\n", field.level()));
     for inner in field.inner() {
         put_lines(text, inner, around + 1);
     }
@@ -224,15 +223,10 @@ fn put_lines(text: &mut String, field: Field, around: usize) {
 }
 
 fn line(field: Field) -> String {
-    let value = field.value;
-    let (rights, rest) = value.split_at_checked(RIGHTS_SIZE).unwrap_or((value, &[]));
-    let rights = little_endian(rights);
+    let (rights, rest) = field.rule();
     match field.tag {
-        RULESET => format!("ruleset {}", written(value)),
-        MASKS => {
-            let masks = value.chunks(RIGHTS_SIZE).map(little_endian);
-            masks_line(&masks.collect::<Vec<u64>>())
-        }
+        RULESET => format!("ruleset {}", written(field.value)),
+        MASKS => masks_line(field.masks()),
         PATH_RULE => format!("path {} {}", written(rest), Rights::from_bits(rights)),
         _ => format!(
             "port {} {}",
@@ -243,10 +237,8 @@ fn line(field: Field) -> String {
 }
 
 /// The masks that are not empty; all of them where none is.
-fn masks_line(masks: &[u64]) -> String {
-    let mask = |place: usize| masks.get(place).copied().unwrap_or(0);
-    let (fs, net) = (Rights::from_bits(mask(0)), PortRights::from_bits(mask(1)));
-    let scope = Scopes::from_bits(mask(2));
+fn masks_line(masks: Attribute) -> String {
+    let Attribute { fs, net, scope } = masks;
     let words = [
         (!fs.is_empty()).then(|| format!(" fs={fs}")),
         (!net.is_empty()).then(|| format!(" net={net}")),
@@ -254,9 +246,4 @@ fn masks_line(masks: &[u64]) -> String {
     ];
     let words: String = words.into_iter().flatten().collect();
     format!("masks{words}")
-}
-
-fn little_endian(bytes: &[u8]) -> u64 {
-    let bytes = bytes.iter().rev();
-    bytes.fold(0, |number, byte| number << 8 | u64::from(*byte))
 }

@@ -85,6 +85,7 @@ impl Declared {
 }
 
 /// A number that a name was bound to.
+#[derive(Clone)]
 struct Bound {
     number: u64,
     /// Whether it still stands for what it was bound to: numbers are used again.
@@ -92,7 +93,7 @@ struct Bound {
 }
 
 /// The names bound while a scenario is played.
-#[derive(Default)]
+#[derive(Clone, Default)]
 pub struct Names(BTreeMap<(Space, String), Bound>);
 
 impl Names {

@@ -66,7 +66,7 @@ impl SlotReport {
 }
 
 /// Rights of one sort or the other.
-#[derive(Clone, Copy, Debug, PartialEq, Eq)]
+#[derive(Clone, Copy, Debug, PartialEq, Eq, PartialOrd, Ord)]
 pub enum Mask {
     Files(Rights),
     Ports(PortRights),

@@ -1,0 +1,1 @@
+// No code: what the checks before a verdict tell a batch.

@@ -1,0 +1,2 @@
+-- How code comes to the reply to a request.
+pub mod Replies

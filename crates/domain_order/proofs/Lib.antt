@@ -1,0 +1,2 @@
+-- The laws of kept orders.
+pub mod Orders

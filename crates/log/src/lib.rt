@@ -1,0 +1,1 @@
+// No code: the log of tree changes, its replay, and what an unbroken log gives back.

@@ -1,0 +1,2 @@
+-- Each check of a place refuses.
+pub mod Places

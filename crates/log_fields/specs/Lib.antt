@@ -1,0 +1,2 @@
+-- What the code of the fields answers and leaves.
+pub mod Seen

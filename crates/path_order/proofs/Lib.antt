@@ -1,0 +1,4 @@
+-- The laws of parting.
+pub mod Bytes
+pub mod Steps
+pub mod Parting

@@ -1,0 +1,2 @@
+-- Which of two entries' paths goes first, from the names where they part.
+pub mod Parting

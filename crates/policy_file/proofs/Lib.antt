@@ -1,0 +1,2 @@
+-- The laws of writing a file.
+pub mod Filled

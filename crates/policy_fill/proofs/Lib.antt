@@ -1,0 +1,2 @@
+-- The laws of writing fields one after another.
+pub mod Parts

@@ -1,0 +1,3 @@
+-- Rules put into their order one after another.
+pub mod Insert
+pub mod Picked

@@ -1,0 +1,2 @@
+-- What the paths of entries rest on.
+pub mod Rooted

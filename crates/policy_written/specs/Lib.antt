@@ -1,0 +1,3 @@
+-- Writing a policy file, as a call, and what is promised of it.
+pub mod Promise
+pub mod Example

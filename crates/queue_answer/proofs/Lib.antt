@@ -1,0 +1,2 @@
+-- How code comes to an answer.
+pub mod Answered

@@ -1,0 +1,3 @@
+-- The laws of a walk over an order.
+pub mod Lists
+pub mod Masks
