@@ -26,7 +26,7 @@ isOpening p = eqb (tagOf p) rulesetTag
 abbrev pub nextRuleset : List ℕ → ℕ → ℕ
 nextRuleset f from = firstPlace isOpening from (pieces (part f from (length f)))
 
--- "that stretch of the file it stands in, from its tag 1 up to the next ruleset or the file's end"
+-- the ruleset's part of "the file it stands in, from its tag 1 up to the next ruleset or the file's end"
 unfoldable pub spanOf : List ℕ → List ℕ → ℕ → Span
 spanOf f name at = record { at = at; end = nextRuleset f (at + header + length name) }
 
@@ -51,7 +51,7 @@ unfoldable pub bytesIn : List ℕ → List ℕ → File → List ℕ
 bytesIn stock site Stock = stock
 bytesIn stock site Site = site
 
--- "the caller gets that stretch of the file it stands in .. (empty when refused)"
+-- what the caller gets: that part "of the file it stands in .. (empty when refused)"
 unfoldable pub partOf : List ℕ → List ℕ → Found → List ℕ
 partOf stock site (At file s) = part (bytesIn stock site file) (s .at) (s .end)
 partOf stock site (TooBig file) = []

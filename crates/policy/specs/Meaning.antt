@@ -27,7 +27,7 @@ unfoldable pub collect : (Piece → List Rule) → List Piece → List Rule
 collect g [] = []
 collect g (p ∷ ps) = g p ++ collect g ps
 
--- "a group counts exactly if the desk's level reaches its number and those of the groups around it"
+-- "a group counts exactly if the .. level reaches its number and those of the groups around it"
 unfoldable pub countedIn : (Piece → List Rule) → ℕ → Piece → List Rule
 countedIn inner level (stray s) = []
 countedIn inner level (field t v) =
