@@ -77,7 +77,7 @@ pub fn thread_name(player: &Player, thread: Thread) -> String {
 }
 
 /// A ruleset's label, or else its number.
-pub fn ruleset_name(player: &Player, ruleset: Ruleset) -> String {
+fn ruleset_name(player: &Player, ruleset: Ruleset) -> String {
     let name = player.names.name(Space::Ruleset, ruleset.number());
     name.map_or_else(|| ruleset.to_string(), str::to_owned)
 }

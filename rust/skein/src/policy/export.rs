@@ -2,7 +2,7 @@
 use super::text::show;
 use super::LONGEST_FILE;
 use crate::messages::{not_as_written, not_written};
-use crate::named::{ruleset, ruleset_name};
+use crate::named::ruleset;
 use crate::outcome::{Outcome, BAD_INPUT, DIFFERS};
 use crate::play::Play;
 use crate::transcript::counted;
@@ -41,10 +41,9 @@ pub fn export(scenario: &str, play: &Play, wanted: &Export) -> Result<Outcome, O
     let tables = &play.player.tables;
     let written = tables.policy_file(ruleset, wanted.name.as_bytes());
     let bytes = written.map_err(|errno| {
-        let ruleset_name = ruleset_name(&play.player, ruleset);
         let why = unwritten(tables, ruleset, errno);
-        let scenario = escaped(scenario);
-        let message = format!("ruleset {ruleset_name} is not written: {errno}: {why}");
+        let (scenario, word) = (escaped(scenario), escaped(&word));
+        let message = format!("ruleset {word} is not written: {errno}: {why}");
         Outcome::refused(format!("skein: {scenario}: {message}\n"), DIFFERS)
     })?;
     let Some(file) = &wanted.file else {
