@@ -217,25 +217,26 @@ fn found_answer_or_bytes(writer: impl Fn(&Model, &Writing) -> (Answer, Vec<u8>))
 #[test]
 fn an_over_long_path_that_is_replaced_is_found() {
     // Of the paths that are not too long, the first.
-    let case = found_answers_of(
-        |model, writing| match model.write_policy(writing) {
-            (Err(Refusal::ChosenPathTooLong), _) => {
-                let mut fewer = model.clone();
-                let entries: Vec<u64> = model.entries.keys().copied().collect();
-                for entry in entries {
-                    let long = model.path_of(entry).len() > LONGEST_PATH;
-                    if long && !model.has_children(entry) {
-                        fewer.entries.remove(&entry);
-                        fewer.names.take(entry);
-                    }
+    let [broker, right] = found_numbers(|model, writing| match model.write_policy(writing) {
+        (Err(Refusal::ChosenPathTooLong), _) => {
+            let mut fewer = model.clone();
+            for entry in model.entries.keys() {
+                let long = model.path_of(*entry).len() > LONGEST_PATH;
+                if long && !model.has_children(*entry) {
+                    fewer.entries.remove(entry);
+                    fewer.names.take(*entry);
                 }
-                fewer.write_policy(writing)
             }
-            right => right,
-        },
-        Errno::ENAMETOOLONG,
-    );
-    assert_eq!(rules_of(&case).len(), 1);
+            match fewer.write_policy(writing) {
+                // Nothing is left to take in its place.
+                (Err(Refusal::NoEntryLeft), out) => (Err(Refusal::ChosenPathTooLong), out),
+                otherwise => otherwise,
+            }
+        }
+        right => right,
+    });
+    assert_eq!(right, Errno::ENAMETOOLONG.returned());
+    assert_ne!(broker, right);
 }
 
 /// A writer that answers with success or otherwise where the model has a refusal.
@@ -288,16 +289,13 @@ fn found_answers_of_writer(fits: fn(usize, usize) -> bool, refusal: Errno) {
 
 #[test]
 fn a_limit_of_files_that_is_one_off_is_found() {
-    let (case, difference) = found(&mut Wrong(|model: &Model, writing: &Writing| {
-        match model.write_policy(writing) {
-            (Ok(length), _) if length as usize == LONGEST_FILE => {
-                (Err(Refusal::FileTooLong), writing.unwritten())
-            }
-            right => right,
+    let numbers = found_numbers(|model, writing| match model.write_policy(writing) {
+        (Ok(length), _) if length as usize == LONGEST_FILE => {
+            (Err(Refusal::FileTooLong), writing.unwritten())
         }
-    }));
-    let text = scenario(&case, &difference);
-    assert_eq!(difference.model.number, LONGEST_FILE as u64, "{text}");
+        right => right,
+    });
+    assert_eq!(numbers, [Errno::E2BIG.returned(), LONGEST_FILE as u64]);
 }
 
 #[test]
@@ -445,7 +443,9 @@ fn refusals_that_are_left_out_are_found() {
             (Err(refusal), out) if refusal == left_out => (Ok(out.len() as u64), out),
             right => right,
         };
-        found_answers_of(without, left_out.errno());
+        let [broker, model] = found_numbers(without);
+        assert_eq!(model, left_out.errno().returned());
+        assert_ne!(broker, model);
     }
 }
 
