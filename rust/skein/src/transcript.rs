@@ -3,6 +3,7 @@ use crate::json::Json;
 use crate::lines::{broken, Row};
 use crate::paint::Paint;
 use crate::play::{Play, Played};
+use crate::policy::show;
 use crate::scenario::{
     written, Answer, Call, Mask, PolicyReport, Report, RulesetCall, SlotReport, Space,
 };
@@ -62,7 +63,7 @@ pub fn counted(count: usize, noun: &str) -> String {
 
 /// What a line says of an answer that it does not allow.
 pub fn verdict(played: &Played) -> String {
-    let verdict = match played.statement.expected {
+    let verdict = match &played.statement.expected {
         Some(expected) => format!("expected {expected}"),
         None => "must succeed".to_owned(),
     };
@@ -140,6 +141,8 @@ fn slot_lines(played: &Played) -> Vec<String> {
 const INDENT: usize = 4;
 /// The widest that a part of a path is shown.
 const WIDEST_PART: usize = 40;
+/// The widest that a line of a policy file is shown.
+const WIDEST_LINE: usize = 120;
 /// The widest column of answers. Wider ones have a line of their own.
 const WIDEST_ANSWER: usize = 24;
 
@@ -259,7 +262,19 @@ fn below(played: &Played) -> Vec<String> {
     };
     let rules = played.rules.iter().map(rule_text);
     let parts = part(played).into_iter().chain(policy_part(played));
+    let parts = parts.chain(written_file(played));
     why.into_iter().chain(rules).chain(parts).collect()
+}
+
+/// The policy file that was written, as text.
+fn written_file(played: &Played) -> Vec<String> {
+    match played.answer {
+        Answer::Written(_) => {
+            let text = show(&played.part);
+            text.lines().map(|line| cut(line, WIDEST_LINE)).collect()
+        }
+        _ => Vec::new(),
+    }
 }
 
 /// The part of a policy file that a name means, in words.
@@ -328,7 +343,9 @@ pub fn call_json(played: &Played) -> Json {
     let statement = played.statement;
     let (number, errno) = match played.answer {
         Answer::Done => (Some(0), None),
-        Answer::New(number) | Answer::Found(number) => (Some(number), None),
+        Answer::New(number) | Answer::Found(number) | Answer::Written(number) => {
+            (Some(number), None)
+        }
         Answer::Served(slot) => (Some(slot.number()), None),
         Answer::Idle | Answer::State(_) => (None, None),
         Answer::Refused(errno) => (None, Some(errno)),
@@ -360,7 +377,7 @@ pub fn call_json(played: &Played) -> Json {
         ("bound", Json::option(made, bound_json)),
         (
             "expected",
-            Json::option(statement.expected, |expected| {
+            Json::option(statement.expected.as_ref(), |expected| {
                 Json::text(expected.to_string())
             }),
         ),
@@ -382,7 +399,13 @@ pub fn call_json(played: &Played) -> Json {
                 policy_json(policy, played.fault.as_deref())
             }),
         ),
+        ("written", Json::option(written_bytes(played), Json::text)),
     ])
+}
+
+/// The bytes of the policy file that was written, with the escapes of a scenario.
+fn written_bytes(played: &Played) -> Option<String> {
+    matches!(played.answer, Answer::Written(_)).then(|| written(&played.part))
 }
 
 /// What is said of policy files: the file, the ruleset's part of it or the place of its fault, and what is wrong.

@@ -28,6 +28,7 @@ fn plain(answer: ExpectedAnswer) -> Expected {
     Expected {
         answer,
         report: ReportWords::default(),
+        bytes: None,
     }
 }
 
