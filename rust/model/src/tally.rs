@@ -5,7 +5,9 @@ use crate::batch::{Batch, Sort, ANSWER};
 use crate::call::Call;
 use crate::compare::Step;
 use crate::odd::Odd;
+use crate::policy::met::Met;
 use crate::policy::read::DEEPEST;
+use crate::policy::write::Writing;
 use crate::policy::{File, Wanted};
 use crate::queue::event::Event;
 use crate::queue::IDLE;
@@ -18,7 +20,7 @@ use std::fmt;
 use Refusal::*;
 
 /// The refusals of each call, after the one for tables that aren't sound.
-const REFUSALS: [(&str, &[Refusal]); 27] = [
+const REFUSALS: [(&str, &[Refusal]); 28] = [
     ("fresh", &[WrongLength, UnknownLevel]),
     (
         "create_ruleset",
@@ -220,6 +222,20 @@ const REFUSALS: [(&str, &[Refusal]); 27] = [
             RulesetFull,
         ],
     ),
+    (
+        "write_policy",
+        &[
+            Disabled,
+            RulesetNotOpen,
+            FileWithoutName,
+            FileNameTooLong,
+            SweepingRule,
+            NoEntryLeft,
+            ChosenPathTooLong,
+            FileTooLong,
+            NoRoomForFile,
+        ],
+    ),
 ];
 
 /// The refusals of a lookup, which an application of a policy file makes too.
@@ -268,7 +284,14 @@ const LATER: [Refusal; 4] = [
 const WITHOUT_SOUNDNESS: [&str; 6] = ["fresh", "component", "post", "turn", "batch", "find_policy"];
 
 /// The names of posts, turns, batches and policy files.
-const EVENTS: [&str; 5] = ["post", "turn", "batch", "find_policy", "apply_policy"];
+const EVENTS: [&str; 6] = [
+    "post",
+    "turn",
+    "batch",
+    "find_policy",
+    "apply_policy",
+    "write_policy",
+];
 
 /// The lengths of reports, in cells, that are to be met with every answer that says something.
 const REPORTS: [u64; 5] = [0, 1, 2, 3, 5];
@@ -309,6 +332,8 @@ pub struct Tally {
     groups: BTreeMap<Groups, u64>,
     /// Policy files with a fault, by the call that met it.
     faults: BTreeMap<Faulty, u64>,
+    /// Policy files that were written or had no room.
+    written: BTreeMap<Met, u64>,
     /// Calls with a report by its length.
     reports: BTreeMap<Report, u64>,
     damages: BTreeMap<Unsound, u64>,
@@ -389,6 +414,17 @@ impl Tally {
         }
     }
 
+    /// Counts a policy file that is written of sound tables, which show a model, or of others.
+    pub fn count_written(&mut self, writing: &Writing, answer: Answer, model: Option<&Model>) {
+        self.calls += 1;
+        let refusal = answer.err();
+        *self.answers.entry(("write_policy", refusal)).or_default() += 1;
+        let met = model.map(|model| Met::of(writing, answer, model));
+        for met in met.into_iter().flatten() {
+            *self.written.entry(met).or_default() += 1;
+        }
+    }
+
     /// Counts a step on odd tables.
     pub fn count_odd(&mut self, odds: &[Odd], step: &Step) {
         let Some(name) = step.name() else {
@@ -445,9 +481,12 @@ impl Tally {
         let groups = depths.chain([(1, true), (2, true)]);
         let groups = groups.filter(|groups| !self.groups.contains_key(groups));
         let faults = faults().filter(|faulty| !self.faults.contains_key(faulty));
+        let written = Met::ALL.iter();
+        let written = written.filter(|met| !self.written.contains_key(met));
         let lines = refusals.map(|(call, refusal)| format!("{call} {}", refusal_text(refusal)));
         lines
             .chain(faults.map(|faulty| fault_text(&faulty)))
+            .chain(written.map(|met| format!("written file, {met:?}")))
             .chain(
                 groups.map(|groups| format!("ruleset with groups, depth and left out: {groups:?}")),
             )
@@ -608,6 +647,7 @@ impl fmt::Display for Tally {
         self.write_served(f)?;
         self.write_asked(f)?;
         self.write_faults(f)?;
+        self.write_written(f)?;
         self.write_reports(f)?;
         writeln!(
             f,
@@ -668,6 +708,17 @@ impl Tally {
         writeln!(f, "policy files with a fault:")?;
         for (faulty, count) in &self.faults {
             writeln!(f, "    {} {count}", fault_text(faulty))?;
+        }
+        Ok(())
+    }
+
+    fn write_written(&self, f: &mut fmt::Formatter) -> fmt::Result {
+        writeln!(
+            f,
+            "policy files that were to be written, and what they met:"
+        )?;
+        for (met, count) in &self.written {
+            writeln!(f, "    {met:?} {count}")?;
         }
         Ok(())
     }

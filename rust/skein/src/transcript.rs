@@ -3,6 +3,7 @@ use crate::json::Json;
 use crate::lines::{broken, Row};
 use crate::paint::Paint;
 use crate::play::{Play, Played};
+use crate::policy::show;
 use crate::scenario::{
     written, Answer, Call, Mask, PolicyReport, Report, RulesetCall, SlotReport, Space,
 };
@@ -62,8 +63,14 @@ pub fn counted(count: usize, noun: &str) -> String {
 
 /// What a line says of an answer that it does not allow.
 pub fn verdict(played: &Played) -> String {
-    let verdict = match played.statement.expected {
-        Some(expected) => format!("expected {expected}"),
+    let verdict = match &played.statement.expected {
+        Some(expected) => {
+            let expected = expected.to_string();
+            format!(
+                "expected {}",
+                each_word(&expected, |word| cut(word, WIDEST_PART))
+            )
+        }
         None => "must succeed".to_owned(),
     };
     match played.statement.rounds {
@@ -138,7 +145,7 @@ fn slot_lines(played: &Played) -> Vec<String> {
 
 /// How far a line that goes on is indented.
 const INDENT: usize = 4;
-/// The widest that a part of a path is shown.
+/// The widest that a part of a path, a word of a policy file or one of what is expected is shown.
 const WIDEST_PART: usize = 40;
 /// The widest column of answers. Wider ones have a line of their own.
 const WIDEST_ANSWER: usize = 24;
@@ -259,7 +266,22 @@ fn below(played: &Played) -> Vec<String> {
     };
     let rules = played.rules.iter().map(rule_text);
     let parts = part(played).into_iter().chain(policy_part(played));
+    let parts = parts.chain(written_file(played));
     why.into_iter().chain(rules).chain(parts).collect()
+}
+
+/// The policy file that was written, as text.
+fn written_file(played: &Played) -> Vec<String> {
+    match played.answer {
+        Answer::Written(_) => {
+            let text = show(&played.part);
+            let lines = text.lines();
+            lines
+                .map(|line| each_word(line, |word| cut(word, WIDEST_PART)))
+                .collect()
+        }
+        _ => Vec::new(),
+    }
 }
 
 /// The part of a policy file that a name means, in words.
@@ -285,11 +307,16 @@ fn part(played: &Played) -> Option<String> {
 
 /// The call and its arguments, with what is very long cut.
 fn call_text(played: &Played, widest: usize) -> String {
-    let pieces = played.statement.text.split_inclusive([' ', '+']);
+    each_word(&played.statement.text, |word| shown(word, widest))
+}
+
+/// A text with each of its words, and of joined rights each right, as it is to be shown.
+fn each_word(text: &str, shown: impl Fn(&str) -> String) -> String {
+    let pieces = text.split_inclusive([' ', '+']);
     let pieces = pieces.map(|piece| {
         let word = piece.trim_end_matches([' ', '+']);
         let end = piece.strip_prefix(word).unwrap_or_default();
-        format!("{}{end}", shown(word, widest))
+        format!("{}{end}", shown(word))
     });
     pieces.collect()
 }
@@ -328,7 +355,9 @@ pub fn call_json(played: &Played) -> Json {
     let statement = played.statement;
     let (number, errno) = match played.answer {
         Answer::Done => (Some(0), None),
-        Answer::New(number) | Answer::Found(number) => (Some(number), None),
+        Answer::New(number) | Answer::Found(number) | Answer::Written(number) => {
+            (Some(number), None)
+        }
         Answer::Served(slot) => (Some(slot.number()), None),
         Answer::Idle | Answer::State(_) => (None, None),
         Answer::Refused(errno) => (None, Some(errno)),
@@ -360,7 +389,7 @@ pub fn call_json(played: &Played) -> Json {
         ("bound", Json::option(made, bound_json)),
         (
             "expected",
-            Json::option(statement.expected, |expected| {
+            Json::option(statement.expected.as_ref(), |expected| {
                 Json::text(expected.to_string())
             }),
         ),
@@ -382,7 +411,13 @@ pub fn call_json(played: &Played) -> Json {
                 policy_json(policy, played.fault.as_deref())
             }),
         ),
+        ("written", Json::option(written_bytes(played), Json::text)),
     ])
+}
+
+/// The bytes of the policy file that was written, with the escapes of a scenario.
+fn written_bytes(played: &Played) -> Option<String> {
+    matches!(played.answer, Answer::Written(_)).then(|| written(&played.part))
 }
 
 /// What is said of policy files: the file, the ruleset's part of it or the place of its fault, and what is wrong.

@@ -10,6 +10,7 @@ use super::poke::{poke, poke_name};
 use super::report::Sort;
 use super::text::Text;
 use super::Bad;
+use crate::policy::LONGEST_FILE;
 use crate::words::one_of;
 use skeinrabbit::{parse_number, Layer, Level, Scopes, Slot};
 
@@ -52,7 +53,7 @@ const LINK: &str = "link THREAD SOURCE DIRECTORY NAME` or `link THREAD SOURCE PA
 const RENAME: &str = "rename THREAD SOURCE DIRECTORY NAME` or `rename THREAD SOURCE PATH";
 const EXCHANGE: &str = "exchange THREAD SOURCE DIRECTORY ENTRY` or `exchange THREAD SOURCE PATH";
 
-static FORMS: [Form; 30] = [
+static FORMS: [Form; 31] = [
     form("fresh LEVEL", None, fresh),
     form(CREATE_RULESET, Some(Space::Ruleset), create_ruleset),
     form("close_ruleset RULESET", None, close_ruleset),
@@ -77,6 +78,12 @@ static FORMS: [Form; 30] = [
         Some(Space::Ruleset),
         Sort::Policy,
         apply_policy,
+    ),
+    judged(
+        "write_policy RULESET NAME [room=N]",
+        None,
+        Sort::Written,
+        write_policy,
     ),
     form("restrict THREAD RULESET [FLAGS]", None, restrict),
     form("layer_rules LAYER", None, layer_rules),
@@ -214,17 +221,35 @@ fn policy(arguments: &mut Arguments, apply: bool) -> Result<Call, Bad> {
     }))
 }
 
+/// More bytes than any policy file may have.
+pub const MOST_OF_FILE: usize = 65_536;
+
 /// A policy file by its bytes or by its name.
 fn file(arguments: &mut Arguments) -> Result<FileOperand, Bad> {
     let word = arguments.word()?;
-    // More than any file may have.
-    const MOST: usize = 65_536;
     match (word, word.strip_prefix("bytes=")) {
         ("none", _) => Text::parse("\"\"").map(FileOperand::Bytes),
         (_, Some("")) => Err(Bad::word(word, "bytes behind `bytes=`, or `none`")),
-        (_, Some(bytes)) => Text::parse_within(bytes, MOST).map(FileOperand::Bytes),
+        (_, Some(bytes)) => Text::parse_within(bytes, MOST_OF_FILE).map(FileOperand::Bytes),
         (name, None) => Text::parse(name).map(FileOperand::Name),
     }
+}
+
+fn write_policy(arguments: &mut Arguments) -> Result<Call, Bad> {
+    Ok(Call::WritePolicy {
+        ruleset: arguments.ruleset()?,
+        name: arguments.text()?,
+        room: arguments.next().map_or(Ok(LONGEST_FILE), room)?,
+    })
+}
+
+/// How many bytes a file may be written into.
+fn room(word: &str) -> Result<usize, Bad> {
+    let count = word.strip_prefix("room=").and_then(parse_number);
+    let count = count.and_then(|count| usize::try_from(count).ok());
+    count
+        .filter(|count| *count <= MOST_OF_FILE)
+        .ok_or_else(|| Bad::word(word, format!("`room=` and at most {MOST_OF_FILE} bytes")))
 }
 
 fn restrict(arguments: &mut Arguments) -> Result<Call, Bad> {
