@@ -1,7 +1,7 @@
 -- A path, from its end. Assumes nothing.
 use mathlib.Core.Path.{_≡_, refl, sym, ap, _∙_}
 use mathlib.Core.List.{List, [], _∷_, _++_, append-assoc}
-use Prim.Native.Nat.{ℕ, zero, suc, _+_, _-_, _≤_}
+use Prim.Native.Nat.{ℕ, zero, suc, _+_, _-_, _≤_, _<_}
 use native.Mathlib.Omega.{arith}
 use lib.ListN.{length, set, length-append}
 use lib.Seq.{sets, length-sets}
@@ -59,16 +59,18 @@ module _ (es ns before : List ℕ) (end e : ℕ) where
         let e = P .ends in
         omega arith
 
-    pub put-name : (j : ℕ) → left ≡ suc j → (x ≡ 0 → ⊥) → length (nameAt ns x) + 1 ≤ at
-    put-name j s n = let r = put-room in let u = up-length es ns left j x s n in omega arith
+    pub put-name : 0 < left → (x ≡ 0 → ⊥) → {name : List ℕ} → name ≡ nameAt ns x → length name + 1 ≤ at
+    put-name h n p = let r = put-room in let u = up-length es ns left (left - 1) x (omega arith) n in let z = ap length p in omega arith
 
     pub put-length : length out ≡ length before
     put-length = ap length (P .written) ∙ length-sets before at (P .tail)
 
     -- one name and the slash before it
-    pub put-on : (j : ℕ) → left ≡ suc j → (x ≡ 0 → ⊥) → {name mid : List ℕ} {y : ℕ} → name ≡ nameAt ns x → mid ≡ sets out (at - length name) name → y ≡ parent es x
-        → Put es ns before end e (set mid (at - length name - 1) slash) (at - length name - 1) y j
-    put-on j s n {name} {mid} {y} p q r =
+    pub put-on : 0 < left → (x ≡ 0 → ⊥) → {name mid : List ℕ} {y : ℕ} → name ≡ nameAt ns x → mid ≡ sets out (at - length name) name → y ≡ parent es x
+        → Put es ns before end e (set mid (at - length name - 1) slash) (at - length name - 1) y (left - 1)
+    put-on h n {name} {mid} {y} p q r =
+        let j : ℕ = left - 1 in
+        let s : left ≡ suc j = omega arith in
         let room-left = put-room in
         let up = up-length es ns left j x s n in
         let size = ap length p in

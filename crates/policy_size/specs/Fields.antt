@@ -28,6 +28,10 @@ fieldsIn field order (suc k) = fieldsIn field order k ++ field (getD order k 0)
 abbrev pub pathSize : List ℕ → List ℕ → List ℕ → ℕ → ℕ
 pathSize es ns picks i = header + (rightsSize + length (pathOf es ns (getD picks i 0)))
 
+-- how long it is at most
+abbrev pub maxPathSize : ℕ
+maxPathSize = header + (rightsSize + maxPath)
+
 -- the sum over the rules whose numbers stand in the first k cells
 unfoldable pub sumIn : (ℕ → ℕ) → List ℕ → ℕ → ℕ
 sumIn size order zero = 0

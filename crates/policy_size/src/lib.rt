@@ -11,12 +11,12 @@ ghost use Rattle.access.specs.Limits.{maxRules};
 ghost use Rattle.policy.specs.Fields.{header};
 ghost use Rattle.policy.specs.Grammar.{portSize};
 ghost use Rattle.policy.specs.Files.{maxRulesetName, masksSize};
-ghost use Rattle.policy_size.specs.Fields.{pathSize, sumIn, Short};
+ghost use Rattle.policy_size.specs.Fields.{pathSize, maxPathSize, sumIn, Short};
 
 // How long the fields of the first `k` path rules are.
 fn paths_size(entries: &[u64], names: &[u8], picks: &[u64], order: &[u8], k: usize) -> usize
     requires { ⌜ Short (now entries) (now names) (now picks) (now order) k ⌝ }
-    ensures { λ r. ⌜ (r ≡ sumIn (pathSize (now (entries .entry)) (now (names .entry)) (now (picks .entry))) (now (order .entry)) k) × (r ≤ 5000 * k) ⌝ }
+    ensures { λ r. ⌜ (r ≡ sumIn (pathSize (now (entries .entry)) (now (names .entry)) (now (picks .entry))) (now (order .entry)) k) × (r ≤ maxPathSize * k) ⌝ }
 {
     let mut n = 0;
     let mut j = 0;

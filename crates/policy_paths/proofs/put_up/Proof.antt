@@ -1,6 +1,6 @@
 -- The invariant: what follows in the path is written. Assumes nothing.
 use mathlib.Core.Path.{_≡_, sym, ap, _∙_}
-use Prim.Native.Nat.{ℕ, suc, _-_, _≤_}
+use Prim.Native.Nat.{ℕ, _-_, _≤_}
 use native.Mathlib.Omega.{arith}
 use lib.ListN.{length, set, length-set}
 use lib.Seq.{length-sets}
@@ -30,54 +30,30 @@ put-up-spec =
     (λ c.
     let s = c .before .before .before .before .before .before .before in
     let a = s .args in
-    let es = a .entries .now in
-    let ns = a .names .now in
     let l = c .before .before .before .loop in
-    let t = c .before .before .loop-test .taken in
-    let g : l .left ≡ suc (l .left - 1) = omega arith in
-    let m = c .name-of .ensures in
-    let w = put-name es ns (a .out .now) (a .end) (a .e) (l .inv) (s .pre .0) (l .left - 1) g (c .before .if1 .left) in
-    let z = ap length m in
+    let w = put-name (a .entries .now) (a .names .now) (a .out .now) (a .end) (a .e) (l .inv) (s .pre .0) (c .before .before .loop-test .taken) (c .before .if1 .left) (c .name-of .ensures) in
     omega arith)
     (λ c κs.
     let s = c .before .before .before .before .before .before .before .before in
     let a = s .args in
-    let es = a .entries .now in
-    let ns = a .names .now in
     let l = c .before .before .before .before .loop in
-    let t = c .before .before .before .loop-test .taken in
-    let g : l .left ≡ suc (l .left - 1) = omega arith in
-    let m = c .before .name-of .ensures in
-    let w = put-name es ns (a .out .now) (a .end) (a .e) (l .inv) (s .pre .0) (l .left - 1) g (c .before .before .if1 .left) in
-    let z = ap length m in
-    let o = put-length es ns (a .out .now) (a .end) (a .e) (l .inv) (s .pre .0) in
+    let w = put-name (a .entries .now) (a .names .now) (a .out .now) (a .end) (a .e) (l .inv) (s .pre .0) (c .before .before .before .loop-test .taken) (c .before .before .if1 .left) (c .before .name-of .ensures) in
+    let o = put-length (a .entries .now) (a .names .now) (a .out .now) (a .end) (a .e) (l .inv) (s .pre .0) in
     let e = l .inv .ends in
     let p = s .pre .1 in
     omega arith)
     (λ c.
     let s = c .before .before .before .before .before .before .before .before .before .before .before in
     let a = s .args in
-    let es = a .entries .now in
-    let ns = a .names .now in
     let l = c .before .before .before .before .before .before .before .loop in
-    let t = c .before .before .before .before .before .before .loop-test .taken in
-    let g : l .left ≡ suc (l .left - 1) = omega arith in
-    let m = c .before .before .before .before .name-of .ensures in
-    let w = put-name es ns (a .out .now) (a .end) (a .e) (l .inv) (s .pre .0) (l .left - 1) g (c .before .before .before .before .before .if1 .left) in
-    let z = ap length m in
+    let w = put-name (a .entries .now) (a .names .now) (a .out .now) (a .end) (a .e) (l .inv) (s .pre .0) (c .before .before .before .before .before .before .loop-test .taken) (c .before .before .before .before .before .if1 .left) (c .before .before .before .before .name-of .ensures) in
     omega arith)
     (λ c.
     let s = c .before .before .before .before .before .before .before .before .before .before .before in
     let a = s .args in
-    let es = a .entries .now in
-    let ns = a .names .now in
     let l = c .before .before .before .before .before .before .before .loop in
-    let t = c .before .before .before .before .before .before .loop-test .taken in
-    let g : l .left ≡ suc (l .left - 1) = omega arith in
-    let m = c .before .before .before .before .name-of .ensures in
-    let w = put-name es ns (a .out .now) (a .end) (a .e) (l .inv) (s .pre .0) (l .left - 1) g (c .before .before .before .before .before .if1 .left) in
-    let z = ap length m in
-    let o = put-length es ns (a .out .now) (a .end) (a .e) (l .inv) (s .pre .0) in
+    let w = put-name (a .entries .now) (a .names .now) (a .out .now) (a .end) (a .e) (l .inv) (s .pre .0) (c .before .before .before .before .before .before .loop-test .taken) (c .before .before .before .before .before .if1 .left) (c .before .before .before .before .name-of .ensures) in
+    let o = put-length (a .entries .now) (a .names .now) (a .out .now) (a .end) (a .e) (l .inv) (s .pre .0) in
     let q = ap length (c .before .before .put-bytes .ensures) ∙ length-sets (l .out) (l .at - length (c .before .before .before .before .name-of .result .now)) (c .before .before .before .before .name-of .result .now) in
     let e = l .inv .ends in
     let p = s .pre .1 in
@@ -88,15 +64,8 @@ put-up-spec =
     (λ c.
     let s = c .before .before .before .before .before .before .before .before .before .before .before .before in
     let a = s .args in
-    let es = a .entries .now in
-    let ns = a .names .now in
     let l = c .before .before .before .before .before .before .before .before .loop in
-    let t = c .before .before .before .before .before .before .before .loop-test .taken in
-    let g : l .left ≡ suc (l .left - 1) = omega arith in
-    let m = c .before .before .before .before .before .name-of .ensures in
-    let w = put-name es ns (a .out .now) (a .end) (a .e) (l .inv) (s .pre .0) (l .left - 1) g (c .before .before .before .before .before .before .if1 .left) in
-    let z = ap length m in
-    put-on es ns (a .out .now) (a .end) (a .e) (l .inv) (s .pre .0) (l .left - 1) g (c .before .before .before .before .before .before .if1 .left) m (c .before .before .before .put-bytes .ensures) (c .parent-of .ensures))
+    put-on (a .entries .now) (a .names .now) (a .out .now) (a .end) (a .e) (l .inv) (s .pre .0) (c .before .before .before .before .before .before .before .loop-test .taken) (c .before .before .before .before .before .before .if1 .left) (c .before .before .before .before .before .name-of .ensures) (c .before .before .before .put-bytes .ensures) (c .parent-of .ensures))
     (λ c. let s = c .before .before .before .before .before in let a = s .args in put-length (a .entries .now) (a .names .now) (a .out .now) (a .end) (a .e) (c .before .loop .inv) (s .pre .0))
     (λ c.
     let s = c .before .before .before .before .before in

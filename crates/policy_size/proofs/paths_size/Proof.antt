@@ -4,13 +4,13 @@ use Prim.Native.Nat.{ℕ, _+_, _*_, _-_, _≤_}
 use native.Mathlib.Omega.{arith}
 use borrow.Author.Needs.{needs}
 use lib.ListN.{length, getD}
-use Rattle.policy_size.specs.Fields.{pathSize, sumIn}
+use Rattle.policy_size.specs.Fields.{pathSize, maxPathSize, sumIn}
 use Rattle.policy_size.proofs.Fields.{sum-none, sum-more}
 use Rattle.policy_size.proofs.paths_size.Statement.{statement}
 use Rattle.policy_size.proofs.paths_size.Tie as tie
 
 abbrev Inv-loop : tie.InvT-loop
-Inv-loop entries names picks order k n₀ j₀ n j = (j ≤ k) × (n ≡ sumIn (pathSize entries names picks) order j) × (n ≤ 5000 * j)
+Inv-loop entries names picks order k n₀ j₀ n j = (j ≤ k) × (n ≡ sumIn (pathSize entries names picks) order j) × (n ≤ maxPathSize * j)
 
 abbrev μ-loop : tie.MeasureT-loop
 μ-loop entries names picks order k n₀ j₀ n j = k - j

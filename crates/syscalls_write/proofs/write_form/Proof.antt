@@ -4,6 +4,7 @@ use lib.ListN.{length}
 use borrow.Author.Tests.{eq-eqb, ne-eqb, lt-ltb, le-ltb}
 use Rattle.laws.proofs.Bools.{or-left, or-right, nor}
 use Rattle.laws.proofs.Refusals.{first-is, none, hit, miss, miss-not, miss-ne-by, refusals, reads}
+use Rattle.policy.specs.Files.{maxRulesetName}
 use Rattle.policy_write.specs.File.{writeForm}
 use Rattle.syscalls_write.proofs.write_form.Statement.{statement}
 use Rattle.syscalls_write.proofs.write_form.Tie as tie
@@ -25,7 +26,7 @@ write-form-spec =
     let o = c .before .before in
     let l = o .before .before in
     let n = l .before .before .before .before .before .args .name in
-    first-is (miss-ne-by (l .before .level-of .ensures) (l .if1 .left) (miss-not (o .before .ruleset-open .ensures) (o .if2 .left) (hit (or-right (eqb (length (n .now)) 0) _ (lt-ltb _ _ (c .if4 .taken)))))))
+    first-is (miss-ne-by (l .before .level-of .ensures) (l .if1 .left) (miss-not (o .before .ruleset-open .ensures) (o .if2 .left) (hit (or-right (eqb (length (n .now)) 0) _ (lt-ltb maxRulesetName (length (n .now)) (c .if4 .taken)))))))
     (λ c.
     let o = c .before .before in
     let l = o .before .before in
