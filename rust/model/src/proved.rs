@@ -7,7 +7,7 @@ use crate::queue::cells::QueueCells;
 use crate::queue::Request;
 use crate::reference::Rereading;
 use crate::tables::Tables;
-use skeinrabbit_sys::{Cells, SharedCells};
+use skeinrabbit_sys::{Cells, NoLog, SharedCells};
 
 /// The proved core.
 pub struct Core;
@@ -165,12 +165,12 @@ fn cells(tables: &mut Tables) -> Cells<'_> {
     }
 }
 
-/// Calls the core's function for each of the calls; listed are those of numbers alone that may change the tables, with `report`
-/// last where they have one.
+/// Calls the core's function for each of the calls; listed are those of numbers alone that may change the tables, with `log` and
+/// `report` last where they have them.
 macro_rules! core_answer {
     (
-        $tables:ident, $call:ident, $report:ident;
-        $($variant:ident $function:ident($($field:ident),*) $($reported:ident)?;)*
+        $tables:ident, $call:ident, $log:ident, $report:ident;
+        $($variant:ident $function:ident($($field:ident),*) $($reported:ident)*;)*
     ) => {
         match *$call {
             Call::CreateRuleset { ref bytes, flags } => {
@@ -192,28 +192,30 @@ macro_rules! core_answer {
                 skeinrabbit_sys::abstract_socket($tables.shared(), thread, target)
             }
             Call::Create { ref name, thread, directory, kind, .. } => {
-                skeinrabbit_sys::create($tables, thread, directory, kind, name, $report)
+                skeinrabbit_sys::create($tables, thread, directory, kind, name, $log, $report)
             }
             Call::Link { ref name, thread, source, directory, .. } => {
-                skeinrabbit_sys::link($tables, thread, source, directory, name, $report)
+                skeinrabbit_sys::link($tables, thread, source, directory, name, $log, $report)
             }
             Call::Rename { ref name, thread, source, directory, .. } => {
-                skeinrabbit_sys::rename($tables, thread, source, directory, name, $report)
+                skeinrabbit_sys::rename($tables, thread, source, directory, name, $log, $report)
             }
             Call::Lookup { ref path } => skeinrabbit_sys::lookup($tables.shared(), path),
             Call::Component { ref path, place, .. } => {
                 skeinrabbit_sys::component(path, place, $report)
             }
             $(Call::$variant { $($field,)* .. } => {
-                skeinrabbit_sys::$function($tables, $($field,)* $($reported)?)
+                skeinrabbit_sys::$function($tables, $($field,)* $($reported),*)
             })*
         }
     };
 }
 
 fn core_answer(tables: &mut Cells, call: &Call, report: &mut [u64]) -> u64 {
+    let log = &mut NoLog::new();
+    let log = &mut log.log();
     core_answer! {
-        tables, call, report;
+        tables, call, log, report;
         Fresh fresh(level);
         CloseRuleset close_ruleset(ruleset);
         AddPathRule add_path_rule(ruleset, entry, rights, flags);
@@ -223,7 +225,7 @@ fn core_answer(tables: &mut Cells, call: &Call, report: &mut [u64]) -> u64 {
         End end(thread);
         SetNoNewPrivs set_no_new_privs(thread);
         SetAdmin set_admin(thread, on);
-        Remove remove(thread, entry) report;
-        Exchange exchange(thread, source, directory, entry) report;
+        Remove remove(thread, entry) log report;
+        Exchange exchange(thread, source, directory, entry) log report;
     }
 }
