@@ -14,6 +14,8 @@ pub enum Answer {
     New(u64),
     /// Success, with the number of the entry that was found.
     Found(u64),
+    /// Success, with a number of bytes.
+    Count(u64),
     /// The slot that a turn served.
     Served(Slot),
     /// A turn where no slot waits.
@@ -28,7 +30,7 @@ impl fmt::Display for Answer {
         match self {
             Answer::Done => f.pad("0"),
             Answer::New(number) => f.pad(&format!("new {number}")),
-            Answer::Found(number) => number.fmt(f),
+            Answer::Found(number) | Answer::Count(number) => number.fmt(f),
             Answer::Served(slot) => slot.fmt(f),
             Answer::Idle => f.pad(IDLE),
             Answer::State(state) => state.fmt(f),
@@ -129,7 +131,7 @@ impl ExpectedAnswer {
             | (Number(0), Answer::Done)
             | (Idle, Answer::Idle) => true,
             (Number(number) | New(number), Answer::New(made)) => number == made,
-            (Number(number), Answer::Found(found)) => number == found,
+            (Number(number), Answer::Found(found) | Answer::Count(found)) => number == found,
             (Number(number), Answer::Served(slot)) => number == slot.number(),
             (Number(number), Answer::State(state)) => state == SlotState::Unknown(number),
             (State(expected), Answer::State(state)) => expected == state,

@@ -5,6 +5,7 @@ use super::call::{
     AskedCall, Call, FileOperand, Other, Place, PolicyCall, QueueCall, RulesetCall, ThreadCall,
     TreeCall,
 };
+use super::log::{cut, log, replay, restart, written};
 use super::names::{Operand, Space};
 use super::poke::{poke, poke_name};
 use super::report::Sort;
@@ -52,7 +53,9 @@ const LINK: &str = "link THREAD SOURCE DIRECTORY NAME` or `link THREAD SOURCE PA
 const RENAME: &str = "rename THREAD SOURCE DIRECTORY NAME` or `rename THREAD SOURCE PATH";
 const EXCHANGE: &str = "exchange THREAD SOURCE DIRECTORY ENTRY` or `exchange THREAD SOURCE PATH";
 
-static FORMS: [Form; 30] = [
+const LOG: &str = "log ROOM [USED]` or `log none";
+
+static FORMS: [Form; 35] = [
     form("fresh LEVEL", None, fresh),
     form(CREATE_RULESET, Some(Space::Ruleset), create_ruleset),
     form("close_ruleset RULESET", None, close_ruleset),
@@ -99,6 +102,11 @@ static FORMS: [Form; 30] = [
     judged("turn", None, Sort::Slot, turn),
     judged("slot SLOT", None, Sort::Slot, slot),
     form("fresh_queue", None, fresh_queue),
+    form(LOG, None, log),
+    form("cut BYTES", None, cut),
+    form("written", None, written),
+    form("restart", None, restart),
+    form("replay [bytes=TEXT]", None, replay),
     form("poke_name ENTRY NAME [COUNT]", None, poke_name),
     form("poke TABLE CELL VALUE [COUNT STEP RISE]", None, poke),
 ];
@@ -214,15 +222,16 @@ fn policy(arguments: &mut Arguments, apply: bool) -> Result<Call, Bad> {
     }))
 }
 
+/// The most bytes that a line gives: more than any policy file may have.
+pub const MOST_BYTES: usize = 65_536;
+
 /// A policy file by its bytes or by its name.
 fn file(arguments: &mut Arguments) -> Result<FileOperand, Bad> {
     let word = arguments.word()?;
-    // More than any file may have.
-    const MOST: usize = 65_536;
     match (word, word.strip_prefix("bytes=")) {
         ("none", _) => Text::parse("\"\"").map(FileOperand::Bytes),
         (_, Some("")) => Err(Bad::word(word, "bytes behind `bytes=`, or `none`")),
-        (_, Some(bytes)) => Text::parse_within(bytes, MOST).map(FileOperand::Bytes),
+        (_, Some(bytes)) => Text::parse_within(bytes, MOST_BYTES).map(FileOperand::Bytes),
         (name, None) => Text::parse(name).map(FileOperand::Name),
     }
 }
