@@ -130,7 +130,7 @@ struct skein_queue {
  * A log of changes of the tree (docs/LOG.md). It starts empty, with the caller's bytes as its room:
  *
  *     static uint8_t room[4096];
- *     static struct skein_log log = SKEIN_EMPTY_LOG(room);
+ *     static struct skein_log changes = SKEIN_EMPTY_LOG(room);
  *
  * The log itself is the first `used` bytes of `bytes`: it is these that are kept in a file and given to skeinrabbit_replay, and not the
  * whole buffer, whose zeros would be damage. No call writes a byte before `used`. If `used` is more than `size` there is no room.

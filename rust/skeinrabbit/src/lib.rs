@@ -171,7 +171,7 @@
 //! # A log of changes
 //!
 //! The changes of the tree can go into a [`Log`], which a broker keeps in a file: after a crash [`Tables::replay`] makes them again, up to
-//! the last one whose field is whole. docs/LOG.md says how, and rust/skeinrabbit/examples/log.rs is a program.
+//! the last one whose field is whole. docs/LOG.md says how, and examples/log.c is a program.
 //!
 //! ```
 //! use skeinrabbit::{Entry, Errno, Kind, Level, Log, Tables, Thread};
