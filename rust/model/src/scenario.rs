@@ -4,6 +4,7 @@ use crate::batch::{Asked, Batch};
 use crate::call::{Call, Reply, UNWRITTEN};
 use crate::compare::{Case, Difference, Step};
 use crate::damage::Poke;
+use crate::log::Log;
 use crate::policy::{File, NotFound, Wanted};
 use crate::queue::event::Event;
 use crate::queue::{Request, IDLE};
@@ -65,7 +66,21 @@ fn step_lines(step: &Step, reference: &mut Reference) -> Vec<String> {
             };
             policy_lines("apply_policy", wanted, answer, &word)
         }
+        Step::Log(log) => {
+            reference.set_log(log);
+            vec![log_line(log)]
+        }
+        Step::Replay(log) => {
+            let answer = answer_word(reference.replay(log));
+            vec![format!("replay bytes={} => {answer}", text_word(log))]
+        }
     }
+}
+
+/// Says which log the next calls have.
+fn log_line(log: &Log) -> String {
+    let (used, end) = (log.used, log.bytes.len());
+    format!("# from here on the log has {end} bytes, of which {used} are used")
 }
 
 /// The lines of a name that is asked for in policy files.
@@ -311,10 +326,18 @@ fn difference_lines(difference: &Difference) -> Vec<String> {
             cell.model
         ));
     }
+    if let Some([broker, model]) = &difference.logs {
+        lines.push(format!("# log of the broker: {}", log_text(broker)));
+        lines.push(format!("# log of the model: {}", log_text(model)));
+    }
     if difference.cells.len() > CELLS {
         lines.push(format!("# {} cells differ", difference.cells.len()));
     }
     lines
+}
+
+fn log_text(log: &Log) -> String {
+    format!("used {}, bytes {}", log.used, text_word(&log.bytes))
 }
 
 fn reply_text(reply: &Reply) -> String {
