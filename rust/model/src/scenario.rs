@@ -25,9 +25,11 @@ pub fn scenario(case: &Case, difference: &Difference) -> String {
     let names = case.start.names.iter();
     lines.extend(names.map(|(number, name)| format!("poke_name {number} {}", text_word(name))));
     let mut reference = Reference::new(&case.start);
+    lines.extend(difference.logs.as_ref().map(|_| log_line(reference.log())));
     for step in &case.steps {
         lines.extend(step_lines(step, &mut reference));
     }
+    lines.extend(difference.logs.as_ref().map(|_| written_line(&reference)));
     lines.extend(difference_lines(difference));
     lines.join("\n") + "\n"
 }
@@ -77,10 +79,18 @@ fn step_lines(step: &Step, reference: &mut Reference) -> Vec<String> {
     }
 }
 
-/// Says which log the next calls have.
+/// The line after which calls have a log; its bytes are zero in a scenario.
 fn log_line(log: &Log) -> String {
-    let (used, end) = (log.used, log.bytes.len());
-    format!("# from here on the log has {end} bytes, of which {used} are used")
+    let room = log.bytes.len();
+    match log.used {
+        0 => format!("log {room}"),
+        used => format!("log {room} {used}"),
+    }
+}
+
+/// The line that reads the log.
+fn written_line(reference: &Reference) -> String {
+    format!("written => {}", reference.log().used)
 }
 
 /// The lines of a name that is asked for in policy files.

@@ -120,7 +120,7 @@ pub fn fields(log: &[u8]) -> (Vec<(u8, &[u8])>, usize) {
 }
 
 /// The call of a field, as thread 0 makes it.
-fn call_of(tag: u8, value: &[u8]) -> Result<Call, Refusal> {
+pub fn call_of(tag: u8, value: &[u8]) -> Result<Call, Refusal> {
     let number = |low: u8, high: u8| u64::from(u16::from_le_bytes([low, high]));
     let (thread, report) = (0, 0);
     match (tag, value) {
