@@ -89,6 +89,9 @@ pub fn reason(played: &Played) -> Option<String> {
         (Call::Queue(_), Errno::EINVAL) => "there is no such slot",
         (Call::Queue(_), Errno::EAGAIN) => "a request waits in the slot",
         (_, Errno::EIO) => "the tables are not sound",
+        (Call::Log(_), Errno::EBADMSG) => {
+            "a whole field of the log is none that can be made again here"
+        }
         (_, Errno::EAGAIN) => "no free thread",
         (Call::Ruleset(RulesetCall::Restrict { .. }), Errno::EPERM) => {
             "the thread has neither no_new_privs nor admin set"
@@ -249,7 +252,7 @@ fn entries_read(played: &Played) -> Option<String> {
     Some(format!("rules of {read} {noun} read"))
 }
 
-/// What stands below a call: why it was refused, if that differs or a layer did it, and the rules of a layer.
+/// What stands below a call: why it was refused, if that differs or a layer did it, the rules of a layer, and what a log holds.
 fn below(played: &Played) -> Vec<String> {
     let slot = slot_lines(played);
     if !slot.is_empty() {
@@ -263,7 +266,9 @@ fn below(played: &Played) -> Vec<String> {
     let rules = played.rules.iter().map(rule_text);
     let parts = part(played).into_iter().chain(policy_part(played));
     let parts = parts.chain(written_file(played));
-    why.into_iter().chain(rules).chain(parts).collect()
+    let fields = played.fields.iter().cloned();
+    let said = why.into_iter().chain(rules).chain(parts);
+    said.chain(fields).collect()
 }
 
 /// The policy file that was written, as text.
@@ -343,9 +348,10 @@ pub fn call_json(played: &Played) -> Json {
     let statement = played.statement;
     let (number, errno) = match played.answer {
         Answer::Done => (Some(0), None),
-        Answer::New(number) | Answer::Found(number) | Answer::Written(number) => {
-            (Some(number), None)
-        }
+        Answer::New(number)
+        | Answer::Found(number)
+        | Answer::Written(number)
+        | Answer::Count(number) => (Some(number), None),
         Answer::Served(slot) => (Some(slot.number()), None),
         Answer::Idle | Answer::State(_) => (None, None),
         Answer::Refused(errno) => (None, Some(errno)),
@@ -400,6 +406,7 @@ pub fn call_json(played: &Played) -> Json {
             }),
         ),
         ("written", Json::option(written_bytes(played), Json::text)),
+        ("log", Json::list(&played.fields, Json::text)),
     ])
 }
 

@@ -134,6 +134,32 @@ fn declares(start: &str, end: &str, parameters: &[&str]) {
 }
 
 #[test]
+fn a_log_is_writable_for_the_changes_of_the_tree_alone() {
+    for (name, numbers, named) in [
+        ("create(", 3, true),
+        ("remove(", 2, false),
+        ("link(", 3, true),
+        ("rename(", 3, true),
+        ("exchange(", 4, false),
+    ] {
+        let mut kinds = vec!["u64,"; numbers];
+        kinds.extend(named.then_some("&[u8],"));
+        kinds.extend(["&mut [u8],", "&mut u64,", "&mut [u64],"]);
+        assert_eq!(proved_kinds(name, 7), kinds, "{name}");
+    }
+    let parameters = [
+        "$text.as_ptr() => *const u8,",
+        "log.bytes.as_mut_ptr() => *mut u8,",
+        "&mut *log.used => *mut u64,",
+        "report.as_mut_ptr() => *mut u64,",
+    ];
+    declares("macro_rules! changes", "\n}", &parameters);
+    assert_eq!(proved_kinds("replay(", 7), ["&[u8],"]);
+    let parameters = ["log.as_ptr() => *const u8,", "log.len() => usize"];
+    declares("skein_replay[", "\n}", &parameters);
+}
+
+#[test]
 fn only_the_answers_of_a_batch_are_writable() {
     let lists = proved_kinds("batch(", 7);
     assert_eq!(lists, ["&[u64],", "&[u8],", "&mut [u64],"]);

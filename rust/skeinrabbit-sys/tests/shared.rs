@@ -299,7 +299,10 @@ fn a_policy_file_is_all_that_is_written() {
     assert_eq!(write_policy(tables, 0, b"", &mut out), EINVAL);
     assert_eq!(write_policy(tables, 1, b"", &mut out), EBADF);
     assert_eq!(write_policy(tables, 0, b"p", &mut []), ENOSPC);
-    let short = SharedCells { pool: &[], ..tables };
+    let short = SharedCells {
+        pool: &[],
+        ..tables
+    };
     assert_eq!(write_policy(short, 0, b"p", &mut out), EIO);
     assert_eq!(out, [7; 40]);
     assert_eq!(write_policy(tables, 0, b"p", &mut out[..31]), 31);

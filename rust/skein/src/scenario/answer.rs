@@ -1,5 +1,5 @@
 //! Answers, and what a line says the answer must be.
-use super::forms::MOST_OF_FILE;
+use super::forms::MOST_BYTES;
 use super::report::{Report, ReportWords, Sort};
 use super::text::{written, Text};
 use super::Bad;
@@ -16,8 +16,10 @@ pub enum Answer {
     New(u64),
     /// Success, with the number of the entry that was found.
     Found(u64),
-    /// Success, with the number of bytes that were written.
+    /// Success, with the number of bytes of the file that was written.
     Written(u64),
+    /// Success, with a number of bytes.
+    Count(u64),
     /// The slot that a turn served.
     Served(Slot),
     /// A turn where no slot waits.
@@ -32,7 +34,9 @@ impl fmt::Display for Answer {
         match self {
             Answer::Done => f.pad("0"),
             Answer::New(number) => f.pad(&format!("new {number}")),
-            Answer::Found(number) | Answer::Written(number) => number.fmt(f),
+            Answer::Found(number) | Answer::Written(number) | Answer::Count(number) => {
+                number.fmt(f)
+            }
             Answer::Served(slot) => slot.fmt(f),
             Answer::Idle => f.pad(IDLE),
             Answer::State(state) => state.fmt(f),
@@ -91,7 +95,7 @@ fn file_bytes(word: &str) -> Result<Option<Text>, Bad> {
     let Some(bytes) = word.strip_prefix("bytes=") else {
         return Err(Bad::word(word, Sort::Written.expected()));
     };
-    Text::parse_within(bytes, MOST_OF_FILE).map(Some)
+    Text::parse_within(bytes, MOST_BYTES).map(Some)
 }
 
 impl fmt::Display for Expected {
@@ -162,7 +166,10 @@ impl ExpectedAnswer {
             | (Number(0), Answer::Done)
             | (Idle, Answer::Idle) => true,
             (Number(number) | New(number), Answer::New(made)) => number == made,
-            (Number(number), Answer::Found(found) | Answer::Written(found)) => number == found,
+            (
+                Number(number),
+                Answer::Found(found) | Answer::Written(found) | Answer::Count(found),
+            ) => number == found,
             (Number(number), Answer::Served(slot)) => number == slot.number(),
             (Number(number), Answer::State(state)) => state == SlotState::Unknown(number),
             (State(expected), Answer::State(state)) => expected == state,

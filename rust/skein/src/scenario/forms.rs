@@ -5,6 +5,7 @@ use super::call::{
     AskedCall, Call, FileOperand, Other, Place, PolicyCall, QueueCall, RulesetCall, ThreadCall,
     TreeCall,
 };
+use super::log::{cut, log, replay, restart, written};
 use super::names::{Operand, Space};
 use super::poke::{poke, poke_name};
 use super::report::Sort;
@@ -53,7 +54,9 @@ const LINK: &str = "link THREAD SOURCE DIRECTORY NAME` or `link THREAD SOURCE PA
 const RENAME: &str = "rename THREAD SOURCE DIRECTORY NAME` or `rename THREAD SOURCE PATH";
 const EXCHANGE: &str = "exchange THREAD SOURCE DIRECTORY ENTRY` or `exchange THREAD SOURCE PATH";
 
-static FORMS: [Form; 31] = [
+const LOG: &str = "log ROOM [USED]` or `log none";
+
+static FORMS: [Form; 36] = [
     form("fresh LEVEL", None, fresh),
     form(CREATE_RULESET, Some(Space::Ruleset), create_ruleset),
     form("close_ruleset RULESET", None, close_ruleset),
@@ -106,6 +109,11 @@ static FORMS: [Form; 31] = [
     judged("turn", None, Sort::Slot, turn),
     judged("slot SLOT", None, Sort::Slot, slot),
     form("fresh_queue", None, fresh_queue),
+    form(LOG, None, log),
+    form("cut BYTES", None, cut),
+    form("written", None, written),
+    form("restart", None, restart),
+    form("replay [bytes=TEXT]", None, replay),
     form("poke_name ENTRY NAME [COUNT]", None, poke_name),
     form("poke TABLE CELL VALUE [COUNT STEP RISE]", None, poke),
 ];
@@ -221,8 +229,8 @@ fn policy(arguments: &mut Arguments, apply: bool) -> Result<Call, Bad> {
     }))
 }
 
-/// More bytes than any policy file may have.
-pub const MOST_OF_FILE: usize = 65_536;
+/// The most bytes that a line gives: more than any policy file may have.
+pub const MOST_BYTES: usize = 65_536;
 
 /// A policy file by its bytes or by its name.
 fn file(arguments: &mut Arguments) -> Result<FileOperand, Bad> {
@@ -230,7 +238,7 @@ fn file(arguments: &mut Arguments) -> Result<FileOperand, Bad> {
     match (word, word.strip_prefix("bytes=")) {
         ("none", _) => Text::parse("\"\"").map(FileOperand::Bytes),
         (_, Some("")) => Err(Bad::word(word, "bytes behind `bytes=`, or `none`")),
-        (_, Some(bytes)) => Text::parse_within(bytes, MOST_OF_FILE).map(FileOperand::Bytes),
+        (_, Some(bytes)) => Text::parse_within(bytes, MOST_BYTES).map(FileOperand::Bytes),
         (name, None) => Text::parse(name).map(FileOperand::Name),
     }
 }
@@ -248,8 +256,8 @@ fn room(word: &str) -> Result<usize, Bad> {
     let count = word.strip_prefix("room=").and_then(parse_number);
     let count = count.and_then(|count| usize::try_from(count).ok());
     count
-        .filter(|count| *count <= MOST_OF_FILE)
-        .ok_or_else(|| Bad::word(word, format!("`room=` and at most {MOST_OF_FILE} bytes")))
+        .filter(|count| *count <= MOST_BYTES)
+        .ok_or_else(|| Bad::word(word, format!("`room=` and at most {MOST_BYTES} bytes")))
 }
 
 fn restrict(arguments: &mut Arguments) -> Result<Call, Bad> {
