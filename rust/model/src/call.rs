@@ -2,6 +2,7 @@
 
 use crate::batch::Batch;
 use crate::names::component;
+use crate::policy::write::{cells_of, Writing};
 use crate::policy::Wanted;
 use crate::queue::cells::QueueCells;
 use crate::queue::{answered, Request};
@@ -208,7 +209,7 @@ impl Reply {
 }
 
 /// Something that answers calls on tables of any length and contents, and keeps a queue, answers
-/// batches and reads policy files as the model does unless it says otherwise.
+/// batches, reads and writes policy files as the model does unless it says otherwise.
 pub trait Broker {
     fn answer(&mut self, tables: &mut Tables, call: &Call) -> Reply;
 
@@ -245,6 +246,15 @@ pub trait Broker {
             Err(_) => (Err(Refusal::NotSound), [0; 3]),
         };
         Reply::of(answer, wanted.report_of(report))
+    }
+
+    /// Writes the policy file of a ruleset; reports every byte of the output.
+    fn write_policy(&mut self, tables: &mut Tables, writing: &Writing) -> Reply {
+        let (answer, out) = match check(tables) {
+            Ok(model) => model.write_policy(writing),
+            Err(_) => (Err(Refusal::NotSound), writing.unwritten()),
+        };
+        Reply::of(answer, cells_of(&out))
     }
 }
 

@@ -6,7 +6,8 @@ use crate::call::{Broker, Call, Reply};
 use crate::damage::{pokes, undo, Poke};
 use crate::generate::{access_request, call, every_call, Mix};
 use crate::odd::{random_cells, wrong_lengths, Odd};
-use crate::policy::{files, Wanted};
+use crate::policy::write::Writing;
+use crate::policy::{files, trees, Wanted};
 use crate::queue::cells::{QueueCells, QueuePart};
 use crate::queue::event::{self, Event};
 use crate::queue::SLOTS;
@@ -33,6 +34,7 @@ pub enum Step {
     Batch(Batch),
     FindPolicy(Wanted),
     ApplyPolicy(Wanted),
+    WritePolicy(Writing),
 }
 
 impl Step {
@@ -44,6 +46,7 @@ impl Step {
             Step::Batch(_) => Some("batch"),
             Step::FindPolicy(_) => Some("find_policy"),
             Step::ApplyPolicy(_) => Some("apply_policy"),
+            Step::WritePolicy(_) => Some("write_policy"),
             Step::Damage(_) | Step::Resize { .. } => None,
         }
     }
@@ -105,8 +108,8 @@ impl<B: Broker> Pair<'_, B> {
         }
     }
 
-    /// Takes a step on both sides; answers the model's answer to a call, a post, a turn, a batch or a name in policy
-    /// files, and how the sides differ.
+    /// Takes a step on both sides; answers the model's answer to a call, a post, a turn, a batch, a name in policy
+    /// files or a file to write, and how the sides differ.
     fn take(&mut self, step: &Step) -> (Option<Answer>, Option<Difference>) {
         self.steps += 1;
         match step {
@@ -139,6 +142,12 @@ impl<B: Broker> Pair<'_, B> {
             Step::ApplyPolicy(wanted) => {
                 let broker = self.broker.apply_policy(&mut self.tables, wanted);
                 let answered = self.reference.apply_policy(wanted);
+                let (answer, difference) = self.compared(broker, answered);
+                return (Some(answer), difference);
+            }
+            Step::WritePolicy(writing) => {
+                let broker = self.broker.write_policy(&mut self.tables, writing);
+                let answered = self.reference.write_policy(writing);
                 let (answer, difference) = self.compared(broker, answered);
                 return (Some(answer), difference);
             }
@@ -245,7 +254,7 @@ pub fn sweep<B: Broker>(broker: &mut B, seed: u64, tally: &mut Tally) -> Option<
     let lengths =
         (0..=LAST_LEVEL).flat_map(|level| (0..=LONGEST).map(move |length| (level, length)));
     for (level, length) in lengths {
-        let mut session = Session::new(broker, Model::fresh(level), Mix::Every, [0; 3]);
+        let mut session = Session::new(broker, Model::fresh(level), Mix::Every, [0; 4]);
         for (filling, call) in attributes::calls(level, length, &mut random) {
             tally.count_attribute(filling, level, length);
             if session.take(tally, Step::Call(call)).is_some() {
@@ -261,9 +270,34 @@ pub fn sweep<B: Broker>(broker: &mut B, seed: u64, tally: &mut Tally) -> Option<
 pub fn sweep_files<B: Broker>(broker: &mut B, tally: &mut Tally) -> Option<Case> {
     let swept = files::sweep();
     for (place, level) in [6, 4, 3, 1, 6].into_iter().enumerate() {
-        let mut session = Session::new(broker, files::worked_tree(level), Mix::Every, [0; 3]);
+        let mut session = Session::new(broker, files::worked_tree(level), Mix::Every, [0; 4]);
         for wanted in swept.iter().skip(place).step_by(5) {
             if session.files(tally, wanted).is_some() {
+                return Some(session.case);
+            }
+        }
+    }
+    None
+}
+
+/// The tables that policy files are written of in a sweep.
+const WRITTEN_TABLES: usize = 300;
+
+/// Writes policy files of the rulesets of random tables, with rooms around their lengths; answers a case in which the sides
+/// differ.
+pub fn sweep_written<B: Broker>(broker: &mut B, seed: u64, tally: &mut Tally) -> Option<Case> {
+    let mut random = Random::new(seed);
+    for _ in 0..WRITTEN_TABLES {
+        let model = trees::tables(&mut random);
+        let asked = (0..4).map(|_| trees::writing(&model, &mut random));
+        let asked: Vec<Writing> = asked.collect();
+        let rooms = asked
+            .iter()
+            .flat_map(|writing| trees::rooms(&model, writing));
+        for writing in rooms.chain(asked.iter().cloned()) {
+            // Each is a case of its own: nothing changes.
+            let mut session = Session::new(broker, model.clone(), Mix::Every, [0; 4]);
+            if session.take(tally, Step::WritePolicy(writing)).is_some() {
                 return Some(session.case);
             }
         }
@@ -276,7 +310,7 @@ pub struct Options {
     pub seed: u64,
     pub calls: u64,
     pub seconds: Option<u64>,
-    /// Whether rulesets of policy files are found and applied between the calls.
+    /// Whether rulesets of policy files are found and applied, and written, between the calls.
     pub policies: bool,
 }
 
@@ -290,6 +324,7 @@ pub fn compare<B: Broker>(broker: &mut B, options: &Options, tally: &mut Tally) 
         queue_random: Random::new(!options.seed),
         batch_random: Random::new(options.seed.rotate_left(32)),
         policy_random: Random::new(options.seed.rotate_left(16)),
+        write_random: Random::new(options.seed.rotate_left(48)),
         last_call: tally.calls.saturating_add(options.calls),
         tally,
         deadline,
@@ -299,11 +334,14 @@ pub fn compare<B: Broker>(broker: &mut B, options: &Options, tally: &mut Tally) 
         let mix = run.random.pick(&[Mix::Every, Mix::Tree]);
         let queue = run.queue_random.pick(&[0, 5, 50]);
         let batch = run.batch_random.pick(&[0, 3, 20]);
-        let policy = match options.policies {
-            true => run.policy_random.pick(&[0, 5, 25]),
-            false => 0,
+        let (policy, write) = match options.policies {
+            true => (
+                run.policy_random.pick(&[0, 5, 25]),
+                run.write_random.pick(&[0, 2, 10]),
+            ),
+            false => (0, 0),
         };
-        let mut session = Session::new(broker, start, mix, [queue, batch, policy]);
+        let mut session = Session::new(broker, start, mix, [queue, batch, policy, write]);
         if session.play(&mut run).is_some() {
             return Some(session.case);
         }
@@ -320,6 +358,8 @@ struct Run<'a> {
     batch_random: Random,
     /// And policy files.
     policy_random: Random,
+    /// And those that are written.
+    write_random: Random,
     tally: &'a mut Tally,
     /// The calls counted when it ends.
     last_call: u64,
@@ -341,18 +381,21 @@ struct Session<'a, B> {
     batch: u64,
     /// The chance of policy files before the next call, in a hundred.
     policy: u64,
+    /// The chance of a policy file that is written before the next call, in a hundred.
+    write: u64,
     pair: Pair<'a, B>,
     case: Case,
 }
 
 impl<B: Broker> Session<'_, B> {
-    fn new(broker: &mut B, start: Model, mix: Mix, chances: [u64; 3]) -> Session<'_, B> {
-        let [queue, batch, policy] = chances;
+    fn new(broker: &mut B, start: Model, mix: Mix, chances: [u64; 4]) -> Session<'_, B> {
+        let [queue, batch, policy, write] = chances;
         Session {
             mix,
             queue,
             batch,
             policy,
+            write,
             pair: Pair::new(broker, &start),
             case: Case {
                 start,
@@ -421,6 +464,9 @@ impl<B: Broker> Session<'_, B> {
                 let model = self.pair.reference.model().unwrap_or(&self.case.start);
                 let name = step.name().unwrap_or_default();
                 tally.count_policy(name, wanted, answer, model.level);
+            }
+            (Step::WritePolicy(writing), Some(answer)) => {
+                tally.count_written(writing, answer, self.pair.reference.model().ok());
             }
             _ => {}
         }
@@ -492,6 +538,15 @@ impl<B: Broker> Session<'_, B> {
 
     /// A call, and perhaps a batch, policy files and things that happen to the queue before it.
     fn random_step(&mut self, run: &mut Run) -> Option<Difference> {
+        if run.write_random.chance(self.write) {
+            let model = self.pair.reference.model();
+            let model = model.unwrap_or(&self.case.start);
+            let writing = trees::writing(model, &mut run.write_random);
+            let difference = self.take(run.tally, Step::WritePolicy(writing));
+            if difference.is_some() {
+                return difference;
+            }
+        }
         if run.policy_random.chance(self.policy) {
             let difference = self.policy(run);
             if difference.is_some() {
@@ -597,8 +652,8 @@ impl<B: Broker> Session<'_, B> {
             .or_else(|| (0..5).find_map(|_| self.random_step(run)))
     }
 
-    /// Posts a request, takes a turn, asks a batch, finds and applies a ruleset of policy files and makes every call
-    /// once, with arguments for tables that show a model.
+    /// Posts a request, takes a turn, asks a batch, finds and applies a ruleset of policy files, writes one and makes every
+    /// call once, with arguments for tables that show a model.
     fn every_call(&mut self, run: &mut Run, model: &Model, odds: &[Odd]) -> Option<Difference> {
         let post = Event::Post {
             slot: run.queue_random.below(SLOTS as u64),
@@ -607,7 +662,12 @@ impl<B: Broker> Session<'_, B> {
         let events = [post, Event::Turn].map(Step::Queue).into_iter();
         let batch = Step::Batch(asked::batch(model, &mut run.batch_random));
         let wanted = files::wanted(model, &mut run.policy_random);
-        let policies = [Step::FindPolicy(wanted.clone()), Step::ApplyPolicy(wanted)];
+        let writing = trees::writing(model, &mut run.write_random);
+        let policies = [
+            Step::FindPolicy(wanted.clone()),
+            Step::ApplyPolicy(wanted),
+            Step::WritePolicy(writing),
+        ];
         let calls = every_call(model, &mut run.random).into_iter();
         let calls = policies.into_iter().chain(calls.map(Step::Call));
         let mut steps = events.chain([batch]).chain(calls);

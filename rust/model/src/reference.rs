@@ -4,6 +4,7 @@ use crate::batch::Batch;
 use crate::call::{Broker, Call, Reply};
 use crate::compare::Step;
 use crate::damage::Poke;
+use crate::policy::write::{cells_of, Writing};
 use crate::policy::Wanted;
 use crate::queue::answered;
 use crate::queue::cells::QueueCells;
@@ -48,7 +49,7 @@ impl Reference {
             Step::Damage(pokes) => self.damage(pokes),
             Step::Resize { table, length } => self.resize(*table, *length),
             Step::Queue(event) => drop(self.queue_event(event)),
-            Step::Batch(_) | Step::FindPolicy(_) => {}
+            Step::Batch(_) | Step::FindPolicy(_) | Step::WritePolicy(_) => {}
             Step::ApplyPolicy(wanted) => drop(self.apply_policy(wanted)),
         }
     }
@@ -103,6 +104,15 @@ impl Reference {
             encode_into(model, &mut self.tables);
         }
         (answer, wanted.report_of(report))
+    }
+
+    /// What writing a ruleset's policy file answers, and every byte of the output.
+    pub fn write_policy(&self, writing: &Writing) -> (Answer, Vec<u64>) {
+        let (answer, out) = match &self.model {
+            Ok(model) => model.write_policy(writing),
+            Err(_) => (Err(Refusal::NotSound), writing.unwritten()),
+        };
+        (answer, cells_of(&out))
     }
 
     /// Answers a call and writes every cell anew.

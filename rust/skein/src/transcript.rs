@@ -1,10 +1,12 @@
 //! What `skein run` shows: each call with its answer.
 use crate::json::Json;
 use crate::lines::{broken, Row};
+use crate::log::in_words;
 use crate::paint::Paint;
 use crate::play::{Play, Played};
+use crate::policy::show;
 use crate::scenario::{
-    written, Answer, Call, Mask, PolicyReport, Report, RulesetCall, SlotReport, Space,
+    written, Answer, Call, LogCall, Mask, PolicyReport, Report, RulesetCall, SlotReport, Space,
 };
 use crate::words::{cut, shown};
 use skeinrabbit::{Errno, Layer, Rights, Rule, SlotState};
@@ -62,7 +64,7 @@ pub fn counted(count: usize, noun: &str) -> String {
 
 /// What a line says of an answer that it does not allow.
 pub fn verdict(played: &Played) -> String {
-    let verdict = match played.statement.expected {
+    let verdict = match &played.statement.expected {
         Some(expected) => format!("expected {expected}"),
         None => "must succeed".to_owned(),
     };
@@ -143,6 +145,8 @@ fn slot_lines(played: &Played) -> Vec<String> {
 const INDENT: usize = 4;
 /// The widest that a part of a path is shown.
 const WIDEST_PART: usize = 40;
+/// The widest that a line of a policy file is shown.
+const WIDEST_LINE: usize = 120;
 /// The widest column of answers. Wider ones have a line of their own.
 const WIDEST_ANSWER: usize = 24;
 
@@ -262,9 +266,28 @@ fn below(played: &Played) -> Vec<String> {
     };
     let rules = played.rules.iter().map(rule_text);
     let parts = part(played).into_iter().chain(policy_part(played));
-    let fields = played.fields.iter().cloned();
-    let said = why.into_iter().chain(rules).chain(parts);
-    said.chain(fields).collect()
+    let parts = parts.chain(written_file(played));
+    let parts = parts.chain(log_fields(played));
+    why.into_iter().chain(rules).chain(parts).collect()
+}
+
+/// The fields of a log that was read, in words.
+fn log_fields(played: &Played) -> Vec<String> {
+    match played.statement.call {
+        Call::Log(LogCall::Read) => in_words(&played.part),
+        _ => Vec::new(),
+    }
+}
+
+/// The policy file that was written, as text.
+fn written_file(played: &Played) -> Vec<String> {
+    match played.answer {
+        Answer::Written(_) => {
+            let text = show(&played.part);
+            text.lines().map(|line| cut(line, WIDEST_LINE)).collect()
+        }
+        _ => Vec::new(),
+    }
 }
 
 /// The part of a policy file that a name means, in words.
@@ -333,7 +356,10 @@ pub fn call_json(played: &Played) -> Json {
     let statement = played.statement;
     let (number, errno) = match played.answer {
         Answer::Done => (Some(0), None),
-        Answer::New(number) | Answer::Found(number) | Answer::Count(number) => (Some(number), None),
+        Answer::New(number)
+        | Answer::Found(number)
+        | Answer::Written(number)
+        | Answer::Count(number) => (Some(number), None),
         Answer::Served(slot) => (Some(slot.number()), None),
         Answer::Idle | Answer::State(_) => (None, None),
         Answer::Refused(errno) => (None, Some(errno)),
@@ -365,7 +391,7 @@ pub fn call_json(played: &Played) -> Json {
         ("bound", Json::option(made, bound_json)),
         (
             "expected",
-            Json::option(statement.expected, |expected| {
+            Json::option(statement.expected.as_ref(), |expected| {
                 Json::text(expected.to_string())
             }),
         ),
@@ -387,8 +413,14 @@ pub fn call_json(played: &Played) -> Json {
                 policy_json(policy, played.fault.as_deref())
             }),
         ),
-        ("log", Json::list(&played.fields, Json::text)),
+        ("written", Json::option(written_bytes(played), Json::text)),
+        ("log", Json::list(log_fields(played), Json::text)),
     ])
+}
+
+/// The bytes of the policy file that was written, with the escapes of a scenario.
+fn written_bytes(played: &Played) -> Option<String> {
+    matches!(played.answer, Answer::Written(_)).then(|| written(&played.part))
 }
 
 /// What is said of policy files: the file, the ruleset's part of it or the place of its fault, and what is wrong.

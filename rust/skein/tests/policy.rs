@@ -568,7 +568,7 @@ fn a_damaged_file_has_no_differences() {
     }
 }
 
-/// The blocks of docs/POLICY.md: text or bytes of a file, and commands that are run on the last one above.
+/// The blocks of docs/POLICY.md: text or bytes of a file, or a scenario, and commands that are run on the last one above.
 #[test]
 fn every_example_of_the_document_is_run() {
     let path = Path::new(env!("CARGO_MANIFEST_DIR")).join("../../docs/POLICY.md");
@@ -578,7 +578,7 @@ fn every_example_of_the_document_is_run() {
     while let (Some(_), Some(block)) = (blocks.next(), blocks.next()) {
         let (language, text) = block.split_once('\n').expect("a block of lines");
         match language {
-            "policy" => file = text.as_bytes().to_vec(),
+            "policy" | "skein" => file = text.as_bytes().to_vec(),
             "bytes" => {
                 let words = text.split_whitespace();
                 let bytes = words.map(|word| u8::from_str_radix(word, 16).expect("a byte"));
@@ -591,7 +591,7 @@ fn every_example_of_the_document_is_run() {
             other => panic!("`{other}` is no kind of example"),
         }
     }
-    assert_eq!(compared, 5);
+    assert_eq!(compared, 6);
 }
 
 /// Runs a command on a file, which is its third word, and compares what it writes.
