@@ -7,8 +7,8 @@
  * into one. Changes of the tree can be kept in a `struct skein_log`, and made again from it.
  *
  * Every call answers a number of zero or more (a new entry, ruleset or thread where one is made, what its comment says, else 0),
- * or a negative error number. Each comment below lists a call's refusals in the order in which they are tested. Before all of them, every call but
- * skeinrabbit_fresh answers -EIO if the tables are not sound. A number out of range counts as not live or not open.
+ * or a negative error number. Each comment below lists a call's refusals in the order in which they are tested. Before all of them,
+ * every call but skeinrabbit_fresh answers -EIO if the tables are not sound. A number out of range counts as not live or not open.
  *
  * Requests about entries and ports and changes of the tree have a last argument `report`, which may be NULL. It is written with
  * every answer: where a layer refuses (EACCES, EXDEV) it says which layer and which rights, and none with every other answer.
@@ -23,12 +23,11 @@
  * Any cells and any numbers are answered. A call is defined if
  * - every pointer is valid for what it points to (a whole struct skein_tables, skein_queue or skein_log, `size` bytes, `count` requests
  *   or verdicts), aligned for its type and not NULL.
- *   Only an attribute, a name, a path, a policy file, the room for one, the bytes of a log that is replayed or the names of a batch may
- *   be NULL, and count as no bytes then, whatever their size; and a report, a log, and the requests and verdicts of a batch without
- *   requests;
+ *   Only an attribute, a name, a path, a policy file, the room for one, the bytes of a log that is replayed or the names of a batch may be
+ *   NULL, and count as no bytes then, whatever their size; and a report, a log, and the requests and verdicts of a batch without requests;
  * - none of these overlap: the tables, a queue, the bytes of an attribute, a name, a path, a policy file or a log, the room for a policy
- *   file, a struct skein_log, a report, the requests, names and verdicts of a batch, and the two places where
- *   skeinrabbit_layer_rules and skeinrabbit_component report. Two policy files may be the same bytes;
+ *   file, a struct skein_log, a report, the requests, names and verdicts of a batch, and the two places where skeinrabbit_layer_rules and
+ *   skeinrabbit_component report. Two policy files may be the same bytes;
  * - 96 KiB of stack are left, for skeinrabbit_batch 1 MiB (docs/PERFORMANCE.md), which a thread or coroutine with a small stack
  *   may not have;
  * - no other call on the same tables or the same queue runs meanwhile, from a thread or from a signal handler. Calls on others may;
@@ -355,7 +354,7 @@ struct skein_policy_report {
  * The changes of the tree take the bytes of a log, of any length, and `used`, one cell, which may hold any number; skein_replay takes
  * the written bytes of one.
  * Each pointer must be aligned (cells to 8 bytes) and valid for its length, and not NULL even if the length is 0. The tables, the
- * parts of a queue, the lists of a batch, the bytes of an attribute, a name, a path, a policy file or a log, `used`, the bytes `out`, a
+ * parts of a queue, the lists of a batch, the bytes of an attribute, a name, a path, a policy file or a log, the bytes `out`, `used`, a
  * report and the report `part` must not overlap.
  */
 #define SKEIN_TABLE_PARAMETERS(cell, byte) \

@@ -45,12 +45,10 @@ pub struct Played<'s> {
     pub report: Option<Report>,
     /// The rules that `layer_rules` gave in it.
     pub rules: Vec<Rule>,
-    /// The part of its path that `component` gave in it, or the policy file that `write_policy` wrote.
+    /// The part of its path that `component` gave in it, the policy file that `write_policy` wrote, or the log that `written` read.
     pub part: Vec<u8>,
     /// What is wrong with policy files, in words, or why none is written.
     pub fault: Option<String>,
-    /// What stands in the log that was read, in words.
-    pub fields: Vec<String>,
 }
 
 impl Played<'_> {
@@ -62,7 +60,7 @@ impl Played<'_> {
             part,
             ..
         } = self;
-        let written = matches!(self.answer, Answer::Written(_));
+        let written = matches!(self.answer, Answer::Written(_) | Answer::Count(_));
         !statement.allows(self.answer, self.report)
             || written && !statement.allows_bytes(part, *round)
     }
@@ -226,7 +224,6 @@ impl Player {
         let mut rules = Vec::new();
         let mut part = Vec::new();
         let mut fault = None;
-        let mut fields = Vec::new();
         let (answer, report) = match &statement.call {
             Call::Fresh { level } => (self.fresh(*level), None),
             Call::Ruleset(call) => (self.ruleset_call(call)?, None),
@@ -245,7 +242,7 @@ impl Player {
             Call::Lookup { path } => (self.lookup(path), None),
             Call::Component { path, place } => self.component(path, *place, &mut part),
             Call::Queue(call) => self.queue_call(call)?,
-            Call::Log(call) => (self.log_call(call, &mut fields)?, None),
+            Call::Log(call) => (self.log_call(call, &mut part)?, None),
             Call::Ask { thread, call } => self.ask(thread, call)?,
             Call::Poke { poked, writes } => (self.poke(*poked, writes), None),
             Call::PokeName { first, count, name } => (self.poke_name(*first, *count, name), None),
@@ -264,7 +261,6 @@ impl Player {
             rules,
             part,
             fault,
-            fields,
         })
     }
 
@@ -463,7 +459,7 @@ impl Player {
         }
     }
 
-    fn log_call(&mut self, call: &LogCall, fields: &mut Vec<String>) -> Result<Answer, Bad> {
+    fn log_call(&mut self, call: &LogCall, part: &mut Vec<u8>) -> Result<Answer, Bad> {
         match call {
             LogCall::Start { room, used } => {
                 let (tables, restricted) = (self.tables.clone(), self.restricted.clone());
@@ -473,7 +469,7 @@ impl Player {
             LogCall::Cut { length } => self.kept()?.log.cut(*length),
             LogCall::Read => {
                 let log = &self.kept()?.log;
-                *fields = log::in_words(log.written());
+                part.extend_from_slice(log.written());
                 return Ok(Answer::Count(log.used()));
             }
             LogCall::Restart => {

@@ -1,11 +1,12 @@
 //! What `skein run` shows: each call with its answer.
 use crate::json::Json;
 use crate::lines::{broken, Row};
+use crate::log::in_words;
 use crate::paint::Paint;
 use crate::play::{Play, Played};
 use crate::policy::show;
 use crate::scenario::{
-    written, Answer, Call, Mask, PolicyReport, Report, RulesetCall, SlotReport, Space,
+    written, Answer, Call, LogCall, Mask, PolicyReport, Report, RulesetCall, SlotReport, Space,
 };
 use crate::words::{cut, shown};
 use skeinrabbit::{Errno, Layer, Rights, Rule, SlotState};
@@ -64,13 +65,7 @@ pub fn counted(count: usize, noun: &str) -> String {
 /// What a line says of an answer that it does not allow.
 pub fn verdict(played: &Played) -> String {
     let verdict = match &played.statement.expected {
-        Some(expected) => {
-            let expected = expected.to_string();
-            format!(
-                "expected {}",
-                each_word(&expected, |word| cut(word, WIDEST_PART))
-            )
-        }
+        Some(expected) => format!("expected {expected}"),
         None => "must succeed".to_owned(),
     };
     match played.statement.rounds {
@@ -148,8 +143,10 @@ fn slot_lines(played: &Played) -> Vec<String> {
 
 /// How far a line that goes on is indented.
 const INDENT: usize = 4;
-/// The widest that a part of a path, a word of a policy file or one of what is expected is shown.
+/// The widest that a part of a path is shown.
 const WIDEST_PART: usize = 40;
+/// The widest that a line of a policy file is shown.
+const WIDEST_LINE: usize = 120;
 /// The widest column of answers. Wider ones have a line of their own.
 const WIDEST_ANSWER: usize = 24;
 
@@ -270,9 +267,16 @@ fn below(played: &Played) -> Vec<String> {
     let rules = played.rules.iter().map(rule_text);
     let parts = part(played).into_iter().chain(policy_part(played));
     let parts = parts.chain(written_file(played));
-    let fields = played.fields.iter().cloned();
-    let said = why.into_iter().chain(rules).chain(parts);
-    said.chain(fields).collect()
+    let parts = parts.chain(log_fields(played));
+    why.into_iter().chain(rules).chain(parts).collect()
+}
+
+/// The fields of a log that was read, in words.
+fn log_fields(played: &Played) -> Vec<String> {
+    match played.statement.call {
+        Call::Log(LogCall::Read) => in_words(&played.part),
+        _ => Vec::new(),
+    }
 }
 
 /// The policy file that was written, as text.
@@ -280,10 +284,7 @@ fn written_file(played: &Played) -> Vec<String> {
     match played.answer {
         Answer::Written(_) => {
             let text = show(&played.part);
-            let lines = text.lines();
-            lines
-                .map(|line| each_word(line, |word| cut(word, WIDEST_PART)))
-                .collect()
+            text.lines().map(|line| cut(line, WIDEST_LINE)).collect()
         }
         _ => Vec::new(),
     }
@@ -312,16 +313,11 @@ fn part(played: &Played) -> Option<String> {
 
 /// The call and its arguments, with what is very long cut.
 fn call_text(played: &Played, widest: usize) -> String {
-    each_word(&played.statement.text, |word| shown(word, widest))
-}
-
-/// A text with each of its words, and of joined rights each right, as it is to be shown.
-fn each_word(text: &str, shown: impl Fn(&str) -> String) -> String {
-    let pieces = text.split_inclusive([' ', '+']);
+    let pieces = played.statement.text.split_inclusive([' ', '+']);
     let pieces = pieces.map(|piece| {
         let word = piece.trim_end_matches([' ', '+']);
         let end = piece.strip_prefix(word).unwrap_or_default();
-        format!("{}{end}", shown(word))
+        format!("{}{end}", shown(word, widest))
     });
     pieces.collect()
 }
@@ -418,7 +414,7 @@ pub fn call_json(played: &Played) -> Json {
             }),
         ),
         ("written", Json::option(written_bytes(played), Json::text)),
-        ("log", Json::list(&played.fields, Json::text)),
+        ("log", Json::list(log_fields(played), Json::text)),
     ])
 }
 

@@ -70,7 +70,7 @@ fn proved() -> Changes {
 #[test]
 fn tables_are_writable_exactly_where_the_proved_export_writes() {
     let (declared, proved) = (declared(), proved());
-    assert_eq!(declared.len(), 25);
+    assert_eq!(declared.len(), 26);
     for (name, tables) in declared {
         assert_eq!(proved.get(name), Some(&tables), "{name}");
     }

@@ -1,5 +1,5 @@
 //! Answers, and what a line says the answer must be.
-use super::forms::MOST_BYTES;
+use super::forms::MOST_OF_FILE;
 use super::report::{Report, ReportWords, Sort};
 use super::text::{written, Text};
 use super::Bad;
@@ -16,7 +16,7 @@ pub enum Answer {
     New(u64),
     /// Success, with the number of the entry that was found.
     Found(u64),
-    /// Success, with the number of bytes of the file that was written.
+    /// Success, with the number of bytes that were written.
     Written(u64),
     /// Success, with a number of bytes.
     Count(u64),
@@ -55,7 +55,7 @@ const STATES: [SlotState; 3] = [SlotState::Empty, SlotState::Waiting, SlotState:
 pub struct Expected {
     pub answer: ExpectedAnswer,
     pub report: ReportWords,
-    /// The bytes of the policy file that it must write.
+    /// The bytes of the policy file that it must write, or of the log that it must find.
     pub bytes: Option<Text>,
 }
 
@@ -95,7 +95,7 @@ fn file_bytes(word: &str) -> Result<Option<Text>, Bad> {
     let Some(bytes) = word.strip_prefix("bytes=") else {
         return Err(Bad::word(word, Sort::Written.expected()));
     };
-    Text::parse_within(bytes, MOST_BYTES).map(Some)
+    Text::parse_within(bytes, MOST_OF_FILE).map(Some)
 }
 
 impl fmt::Display for Expected {

@@ -111,7 +111,7 @@ static FORMS: [Form; 36] = [
     form("fresh_queue", None, fresh_queue),
     form(LOG, None, log),
     form("cut BYTES", None, cut),
-    form("written", None, written),
+    judged("written", None, Sort::Written, written),
     form("restart", None, restart),
     form("replay [bytes=TEXT]", None, replay),
     form("poke_name ENTRY NAME [COUNT]", None, poke_name),
@@ -229,8 +229,8 @@ fn policy(arguments: &mut Arguments, apply: bool) -> Result<Call, Bad> {
     }))
 }
 
-/// The most bytes that a line gives: more than any policy file may have.
-pub const MOST_BYTES: usize = 65_536;
+/// More bytes than any policy file may have.
+pub const MOST_OF_FILE: usize = 65_536;
 
 /// A policy file by its bytes or by its name.
 fn file(arguments: &mut Arguments) -> Result<FileOperand, Bad> {
@@ -238,7 +238,7 @@ fn file(arguments: &mut Arguments) -> Result<FileOperand, Bad> {
     match (word, word.strip_prefix("bytes=")) {
         ("none", _) => Text::parse("\"\"").map(FileOperand::Bytes),
         (_, Some("")) => Err(Bad::word(word, "bytes behind `bytes=`, or `none`")),
-        (_, Some(bytes)) => Text::parse_within(bytes, MOST_BYTES).map(FileOperand::Bytes),
+        (_, Some(bytes)) => Text::parse_within(bytes, MOST_OF_FILE).map(FileOperand::Bytes),
         (name, None) => Text::parse(name).map(FileOperand::Name),
     }
 }
@@ -256,8 +256,8 @@ fn room(word: &str) -> Result<usize, Bad> {
     let count = word.strip_prefix("room=").and_then(parse_number);
     let count = count.and_then(|count| usize::try_from(count).ok());
     count
-        .filter(|count| *count <= MOST_BYTES)
-        .ok_or_else(|| Bad::word(word, format!("`room=` and at most {MOST_BYTES} bytes")))
+        .filter(|count| *count <= MOST_OF_FILE)
+        .ok_or_else(|| Bad::word(word, format!("`room=` and at most {MOST_OF_FILE} bytes")))
 }
 
 fn restrict(arguments: &mut Arguments) -> Result<Call, Bad> {

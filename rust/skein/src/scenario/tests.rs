@@ -385,6 +385,9 @@ fn logs_are_read() {
     assert_eq!(read("replay => EBADMSG"), LogCall::Replay { bytes: None });
     let bytes = Some(text("\\x00a"));
     assert_eq!(read("replay bytes=\\x00a"), LogCall::Replay { bytes });
+    assert!(statement("written => 1 bytes=a")
+        .expected
+        .is_some_and(|read| read.bytes.is_some()));
     let line = statement("replay => 3");
     assert!(line.allows(Answer::Count(3), None) && !line.allows(Answer::Count(0), None));
     assert!(!statement("replay => new").allows(Answer::Count(0), None));
@@ -403,6 +406,8 @@ fn logs_are_read() {
         "replay bytes=a b",
         "replay -> entry",
         "replay => 0 layer=none",
+        "replay => 0 bytes=a",
+        "written => 1 layer=none",
     ] {
         assert!(parse(line.as_bytes()).is_err(), "{line}");
     }
