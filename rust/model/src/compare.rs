@@ -576,46 +576,55 @@ impl<B: Broker> Session<'_, B> {
             Ok(model) => call(model, self.mix, &mut run.random),
             Err(_) => call(&self.case.start, Mix::Every, &mut run.random),
         };
-        let tight = match field(&call) {
-            Some(field) if run.log_random.chance(2 * self.log) => {
-                Some(made::tight(field.len(), &mut run.log_random))
-            }
-            _ => None,
-        };
-        let Some(tight) = tight else {
+        let Some(field) = field(&call).filter(|_| run.log_random.chance(self.log)) else {
             return self.take(run.tally, Step::Call(call));
         };
+        let tight = made::tight(field.len(), &mut run.log_random);
         self.take(run.tally, Step::Log(tight));
         let difference = self.take(run.tally, Step::Call(call));
-        if run.log_random.chance(90) {
+        if difference.is_none() && run.log_random.chance(90) {
             self.take(run.tally, Step::Log(Log::plenty()));
         }
         difference
     }
 
-    /// A replay of a random log onto the tables as they are, or of the log onto those that it started from.
+    /// A replay of a random log or of the log so far onto the tables as they are, or of the latter onto those that it
+    /// started from.
     fn replay(&mut self, run: &mut Run) -> Option<Difference> {
-        if run.log_random.chance(30) {
-            return self.replay_unbroken(run);
+        let log = match run.log_random.below(10) {
+            0..=2 => return self.replay_unbroken(run),
+            3 => self.cut_log(run),
+            _ => {
+                let model = self.pair.reference.model();
+                let model = model.unwrap_or(&self.case.start);
+                made::replayed(model, &mut run.log_random)
+            }
+        };
+        let difference = self.take(run.tally, Step::Replay(log));
+        if difference.is_none() && self.history.is_none() {
+            self.take(run.tally, Step::Log(Log::plenty()));
         }
-        let model = self.pair.reference.model();
-        let model = model.unwrap_or(&self.case.start);
-        let log = made::replayed(model, &mut run.log_random);
-        self.take(run.tally, Step::Replay(log))
+        difference
+    }
+
+    /// The log so far, perhaps cut.
+    fn cut_log(&self, run: &mut Run) -> Vec<u8> {
+        let mut log = self.pair.reference.log().written().to_vec();
+        if run.log_random.chance(60) {
+            log.truncate(run.log_random.below(log.len() as u64 + 1) as usize);
+        }
+        log
     }
 
     /// Puts the tables back to where the log was empty and replays it, perhaps cut, if it is unbroken.
     fn replay_unbroken(&mut self, run: &mut Run) -> Option<Difference> {
         let history = self.history.as_ref()?;
-        let mut log = self.pair.reference.log().written().to_vec();
-        if run.log_random.chance(60) {
-            log.truncate(run.log_random.below(log.len() as u64 + 1) as usize);
-        }
+        let log = self.cut_log(run);
         let mut by_model = history.start().clone();
         let answer = by_model.replay(&log);
         let (after, dropped) = history.after(log.len());
         assert_eq!((answer, by_model), (Ok(dropped), after), "{:?}", self.case);
-        run.tally.count_unbroken(dropped);
+        run.tally.count_unbroken(&log);
         let start = encode(history.start());
         let back = cell_differences(self.pair.reference.tables(), &start).into_iter();
         let back = back.map(|cell| Poke {
@@ -625,7 +634,9 @@ impl<B: Broker> Session<'_, B> {
         });
         self.take(run.tally, Step::Damage(back.collect()));
         let difference = self.take(run.tally, Step::Replay(log));
-        self.take(run.tally, Step::Log(Log::plenty()));
+        if difference.is_none() {
+            self.take(run.tally, Step::Log(Log::plenty()));
+        }
         difference
     }
 

@@ -436,8 +436,10 @@ impl Tally {
     }
 
     /// Counts a replay of an unbroken log onto its starting tables.
-    pub fn count_unbroken(&mut self, dropped: u64) {
-        let replayed = Replayed::Unbroken { cut: dropped > 0 };
+    pub fn count_unbroken(&mut self, log: &[u8]) {
+        let (fields, dropped) = fields(log);
+        let (several, cut) = (fields.len() > 1, dropped > 0);
+        let replayed = Replayed::Unbroken { several, cut };
         *self.replays.entry(replayed).or_default() += 1;
     }
 
@@ -820,16 +822,17 @@ enum Replayed {
     Dropped(u64),
     /// One of several fields is refused.
     RefusedOfSeveral(Refusal),
-    /// An unbroken log, whole or cut within a field, onto its starting tables.
-    Unbroken { cut: bool },
+    /// An unbroken log onto its starting tables, with several whole fields or fewer, cut within a field or not.
+    Unbroken { several: bool, cut: bool },
 }
 
 fn replays() -> impl Iterator<Item = Replayed> {
     let dropped = (0..=4).map(Replayed::Dropped);
     let refused = [FieldTag, FieldValue, FieldRefused, FieldIdle].into_iter();
     let refused = refused.map(Replayed::RefusedOfSeveral);
-    let unbroken = [true, false].map(|cut| Replayed::Unbroken { cut });
-    dropped.chain(refused).chain(unbroken)
+    let both = [true, false];
+    let unbroken = both.map(|several| both.map(|cut| Replayed::Unbroken { several, cut }));
+    dropped.chain(refused).chain(unbroken.into_iter().flatten())
 }
 
 /// The names of all calls, of posts, turns, batches, policy files and replays.
