@@ -24,8 +24,9 @@ pub fn replay_fields(entries: &mut [u64], names: &mut [u8], next: &mut u64, log:
     let end = log.len();
     let mut at = 0;
     while at < end {
+        let left = end - at;
         let Field::Whole { tag, next: after } = field_at(log, Span { at, end }) else {
-            return Replay::Applied(end - at);
+            return Replay::Applied(left);
         };
         let from = at + HEADER;
         if !try_field(entries, names, next, tag, &log[from..after]) {

@@ -1,3 +1,2 @@
--- Tables copied whole, and what a replay answers and leaves.
-pub mod Copies
+-- What a replay answers and leaves.
 pub mod Replays

@@ -41,8 +41,8 @@ replay-fields-spec =
     tie.close
     (tie.spec Inv-loop μ-loop
     (λ c. let s = c .before .before .before in (omega arith, refl, refl, s .pre, rw (part-all (s .args .log .now))))
-    (λ c κs. search needs)
     (λ c. search needs)
+    (λ c κs. search needs)
     (λ c. search needs)
     (λ c. search needs)
     (λ c. c .before .before .before .before .loop .inv .1)
