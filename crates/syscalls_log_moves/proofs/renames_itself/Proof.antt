@@ -1,5 +1,4 @@
 -- Assumes nothing.
-use mathlib.Core.Path.{_≡_}
 use Rattle.syscalls_log_moves.proofs.renames_itself.Statement.{statement}
 use Rattle.syscalls_log_moves.proofs.renames_itself.Tie as tie
 

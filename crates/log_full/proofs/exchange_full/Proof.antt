@@ -4,8 +4,8 @@ use borrow.Author.Tests.{not-false}
 use Rattle.named.specs.Tree.{exchangeNamed}
 use Rattle.named.proofs.Made.{core-sound}
 use Rattle.log_calls.proofs.Full.{full-unsound, full-checked}
-use Rattle.syscalls_log_moves.proofs.exchange_full.Statement.{statement}
-use Rattle.syscalls_log_moves.proofs.exchange_full.Tie as tie
+use Rattle.log_full.proofs.exchange_full.Statement.{statement}
+use Rattle.log_full.proofs.exchange_full.Tie as tie
 
 pub exchange-full-spec : {M : Type 1} → statement M
 unfolding exchangeNamed

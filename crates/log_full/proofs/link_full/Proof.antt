@@ -1,8 +1,8 @@
 -- Assumes nothing.
 use Rattle.named.specs.Tree.{linkNamed}
 use Rattle.log_calls.proofs.Full.{full-unsound, full-checked}
-use Rattle.syscalls_log_moves.proofs.link_full.Statement.{statement}
-use Rattle.syscalls_log_moves.proofs.link_full.Tie as tie
+use Rattle.log_full.proofs.link_full.Statement.{statement}
+use Rattle.log_full.proofs.link_full.Tie as tie
 
 pub link-full-spec : {M : Type 1} → statement M
 unfolding linkNamed

@@ -1,10 +1,9 @@
 -- Assumes nothing.
-use Rattle.names.specs.Names.{bearer}
-use Rattle.named.specs.Tree.{replacedBy, renameNamed}
+use Rattle.named.specs.Tree.{renameNamed}
 use Rattle.log_calls.proofs.Full.{full-unsound, full-checked}
-use Rattle.syscalls_log_moves.proofs.Renaming.{over-bearer}
-use Rattle.syscalls_log_moves.proofs.rename_full.Statement.{statement}
-use Rattle.syscalls_log_moves.proofs.rename_full.Tie as tie
+use Rattle.log_full.proofs.Renaming.{over-bearer}
+use Rattle.log_full.proofs.rename_full.Statement.{statement}
+use Rattle.log_full.proofs.rename_full.Tie as tie
 
 pub rename-full-spec : {M : Type 1} → statement M
 unfolding renameNamed
