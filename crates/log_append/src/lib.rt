@@ -26,7 +26,9 @@ pub const CREATE_FIXED: usize = 6;
 
 pub const REMOVE_FIXED: usize = 5;
 
-pub const MOVE_FIXED: usize = 7;
+pub const LINK_FIXED: usize = 7;
+
+pub const RENAME_FIXED: usize = 7;
 
 pub const EXCHANGE_FIXED: usize = 9;
 
@@ -97,7 +99,7 @@ pub fn append_link(log: &mut [u8], used: &mut u64, s: u64, d: u64, name: &[u8])
         used,
         LINK_TAG,
         s + 65536 * d,
-        MOVE_FIXED - HEADER,
+        LINK_FIXED - HEADER,
         name,
     );
 }
@@ -111,7 +113,7 @@ pub fn append_rename(log: &mut [u8], used: &mut u64, s: u64, d: u64, name: &[u8]
         used,
         RENAME_TAG,
         s + 65536 * d,
-        MOVE_FIXED - HEADER,
+        RENAME_FIXED - HEADER,
         name,
     );
 }

@@ -1,8 +1,8 @@
 -- Assumes nothing.
 use Rattle.named.specs.Tree.{removeNamed}
 use Rattle.log_calls.proofs.Full.{full-unsound, full-checked}
-use Rattle.syscalls_log_tree.proofs.remove_full.Statement.{statement}
-use Rattle.syscalls_log_tree.proofs.remove_full.Tie as tie
+use Rattle.log_full.proofs.remove_full.Statement.{statement}
+use Rattle.log_full.proofs.remove_full.Tie as tie
 
 pub remove-full-spec : {M : Type 1} → statement M
 unfolding removeNamed
