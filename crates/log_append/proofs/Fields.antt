@@ -1,13 +1,13 @@
 -- The field of a change: its bytes written one after another, and the room that it takes. Assumes nothing.
 use mathlib.Core.Path.{_≡_, refl, sym, ap, _∙_}
-use mathlib.Core.Bool.{Bool, true, false}
+use mathlib.Core.Bool.{Bool, true, false, not}
 use mathlib.Core.List.{List, [], _∷_, _++_, append-assoc}
 use Prim.Native.Nat.{ℕ, suc, _+_, _*_, _-_, _/_, _%_, _≤_, _<_}
 use native.Mathlib.Omega.{arith}
 use lib.Dec.{leb}
 use lib.ListN.{length, take, drop, length-append}
 use lib.Seq.{sets, sets-eq}
-use borrow.Author.Tests.{leb-true, leb-false, le-leb, lt-leb}
+use borrow.Author.Tests.{leb-true, leb-false, le-leb, lt-leb, not-true, not-false}
 use Rattle.laws.proofs.Bools.{split}
 use Rattle.access.specs.Errno.{ENOSPC}
 use Rattle.access.specs.Reply.{isRefused}
@@ -112,28 +112,35 @@ pub fit-room : {L : Log} {c : Change} → Fits L c → L .used + (header + lengt
 unfolding hasRoom
 fit-room {L} {c} f = rw (← field-length c) (leb-true (L .used + length (fieldOf c)) (length (L .bytes)) (f .room))
 
--- a test of room
+-- by a test of room
 room-is : (L : Log) (c : Change) {k : ℕ} → k ≡ length (fieldOf c) → {r : Bool} → r ≡ leb (L .used + k) (length (L .bytes)) → r ≡ hasRoom L (fieldOf c)
 unfolding hasRoom
 room-is L c e h = rw (← e) h
 
+-- how it ended
+abbrev Tested : Bool → Log → Change → Type 0
+Tested r L c = (not r ≡ false → hasRoom L (fieldOf c) ≡ true) × (not r ≡ true → hasRoom L (fieldOf c) ≡ false)
+
+tested : (L : Log) (c : Change) {r : Bool} → r ≡ hasRoom L (fieldOf c) → Tested r L c
+tested L c {r} h = ((λ v. sym h ∙ not-false r v), (λ v. sym h ∙ not-true r v))
+
 module _ (L : Log) {r : Bool} where
-  pub create-room : (k d : ℕ) (n : List ℕ) → r ≡ leb (L .used + (6 + length n)) (length (L .bytes)) → r ≡ hasRoom L (fieldOf (create k d n))
+  pub create-room : (k d : ℕ) (n : List ℕ) → r ≡ leb (L .used + (6 + length n)) (length (L .bytes)) → Tested r L (create k d n)
   unfolding fieldOf fieldBytes valueOf
-  create-room k d n h = room-is L (create k d n) (omega arith) h
+  create-room k d n h = tested L (create k d n) (room-is L (create k d n) (omega arith) h)
 
-  pub remove-room : (e : ℕ) → r ≡ leb (L .used + (5 + 0)) (length (L .bytes)) → r ≡ hasRoom L (fieldOf (remove e))
+  pub remove-room : (e : ℕ) → r ≡ leb (L .used + (5 + 0)) (length (L .bytes)) → Tested r L (remove e)
   unfolding fieldOf fieldBytes valueOf
-  remove-room e h = room-is L (remove e) refl h
+  remove-room e h = tested L (remove e) (room-is L (remove e) refl h)
 
-  pub link-room : (s d : ℕ) (n : List ℕ) → r ≡ leb (L .used + (7 + length n)) (length (L .bytes)) → r ≡ hasRoom L (fieldOf (link s d n))
+  pub link-room : (s d : ℕ) (n : List ℕ) → r ≡ leb (L .used + (7 + length n)) (length (L .bytes)) → Tested r L (link s d n)
   unfolding fieldOf fieldBytes valueOf
-  link-room s d n h = room-is L (link s d n) (omega arith) h
+  link-room s d n h = tested L (link s d n) (room-is L (link s d n) (omega arith) h)
 
-  pub rename-room : (s d : ℕ) (n : List ℕ) → r ≡ leb (L .used + (7 + length n)) (length (L .bytes)) → r ≡ hasRoom L (fieldOf (rename s d n))
+  pub rename-room : (s d : ℕ) (n : List ℕ) → r ≡ leb (L .used + (7 + length n)) (length (L .bytes)) → Tested r L (rename s d n)
   unfolding fieldOf fieldBytes valueOf
-  rename-room s d n h = room-is L (rename s d n) (omega arith) h
+  rename-room s d n h = tested L (rename s d n) (room-is L (rename s d n) (omega arith) h)
 
-  pub exchange-room : (s d x : ℕ) → r ≡ leb (L .used + (9 + 0)) (length (L .bytes)) → r ≡ hasRoom L (fieldOf (exchange s d x))
+  pub exchange-room : (s d x : ℕ) → r ≡ leb (L .used + (9 + 0)) (length (L .bytes)) → Tested r L (exchange s d x)
   unfolding fieldOf fieldBytes valueOf
-  exchange-room s d x h = room-is L (exchange s d x) refl h
+  exchange-room s d x h = tested L (exchange s d x) (room-is L (exchange s d x) refl h)

@@ -5,7 +5,7 @@ use mathlib.Core.List.{List}
 use Prim.Native.Nat.{ℕ, _<_}
 use native.Mathlib.Omega.{arith}
 use lib.Dec.{eqb, ltb}
-use borrow.Author.Tests.{not-true, not-false, ltb-false}
+use borrow.Author.Tests.{not-false, ltb-false}
 use Rattle.laws.specs.Refusals.{first}
 use Rattle.laws.proofs.Bools.{split, or-r, not-of-true}
 use Rattle.laws.proofs.Refusals.{passed}
@@ -72,12 +72,9 @@ module _ (N : Named) (t : ℕ) (c : Change) where
       pub logs-idle : idle (treeOf N) c ≡ true → Logs o L
       logs-idle i = split q logs-refused (λ z. logs-still (alters-done (is-done ∙ ap not z) ∙ ap not i) k)
 
-      pub logs-enters : idle (treeOf N) c ≡ false → {b : Bool} → b ≡ hasRoom L (fieldOf c) → not b ≡ false → q ≡ false → {M : Log} → M ≡ append L (fieldOf c) → Logs o M
+      pub logs-enters : idle (treeOf N) c ≡ false → hasRoom L (fieldOf c) ≡ true → q ≡ false → {M : Log} → M ≡ append L (fieldOf c) → Logs o M
       unfolding loggedOutcome loggedLog enters
-      logs-enters i {b} r v z m =
-          let a : alters N (callOf t c) ≡ true = alters-done (is-done ∙ ap not z) ∙ ap not i in
-          let f : hasRoom L (fieldOf c) ≡ true = sym r ∙ not-false b v in
-          (rw (a, f) k, rw (a, f) m)
+      logs-enters i f z m = let a : alters N (callOf t c) ≡ true = alters-done (is-done ∙ ap not z) ∙ ap not i in (rw (a, f) k, rw (a, f) m)
 
       pub is-accepted : q ≡ false → Accepted N t c
       is-accepted z = accepted N t c (is-done ∙ ap not z)
@@ -86,14 +83,13 @@ module _ (N : Named) (t : ℕ) (c : Change) where
     refused-kept : isRefused (replyNamed N (callOf t c)) ≡ true → namedOutcome (replyNamed N (callOf t c)) N ≡ outcomeNamed N (callOf t c)
     refused-kept z = ap (namedOutcome (replyNamed N (callOf t c))) (sym (unaccepted N t c (done-not (replyNamed N (callOf t c)) ∙ ap not z)))
 
-    pub logs-full : idle (treeOf N) c ≡ false → {b : Bool} → b ≡ hasRoom L (fieldOf c) → not b ≡ true → {o : NamedOutcome} → o ≡ withoutRoom N (outcomeNamed N (callOf t c)) → Logs o L
+    pub logs-full : idle (treeOf N) c ≡ false → hasRoom L (fieldOf c) ≡ false → {o : NamedOutcome} → o ≡ withoutRoom N (outcomeNamed N (callOf t c)) → Logs o L
     unfolding withoutRoom fullReply loggedOutcome loggedLog enters
-    logs-full i {b} r v {o} k = split (isRefused (replyNamed N (callOf t c)))
+    logs-full i f {o} k = split (isRefused (replyNamed N (callOf t c)))
         (λ z. let e : o ≡ namedOutcome (replyNamed N (callOf t c)) N = rw z at k in logs-still (alters-refused (done-not (replyNamed N (callOf t c)) ∙ ap not z)) (e ∙ refused-kept z))
         (λ z.
         let a : alters N (callOf t c) ≡ true = alters-done (done-not (replyNamed N (callOf t c)) ∙ ap not z) ∙ ap not i in
         let e : o ≡ namedRefused ENOSPC N = rw z at k in
-        let f : hasRoom L (fieldOf c) ≡ false = sym r ∙ not-true b v in
         (rw (a, f) e, rw (a, f) refl))
 
 -- ---- what a writer asks
@@ -115,5 +111,5 @@ narrow N t (exchange s d x) a =
     (small N t _ a s (not-false _ (p .0)), small N t _ a d (not-false _ (p .1 .0)), small N t _ a x (not-false _ (p .1 .1 .0)))
 
 pub fits : (N : Named) (t : ℕ) (c : Change) (L : Log) {o : NamedOutcome} → o ≡ outcomeNamed N (callOf t c) → {q : Bool} → q ≡ isRefused (o .reply) → q ≡ false
-    → {b : Bool} → b ≡ hasRoom L (fieldOf c) → not b ≡ false → Fits L c
-fits N t c L k h z {b} r v = let a = is-accepted N t c L k h z in record { room = sym r ∙ not-false b v; numbers = narrow N t c a; short = a .short }
+    → hasRoom L (fieldOf c) ≡ true → Fits L c
+fits N t c L k h z f = let a = is-accepted N t c L k h z in record { room = f; numbers = narrow N t c a; short = a .short }

@@ -22,21 +22,19 @@ create-spec =
     (λ c. search needs)
     (λ c.
     let i = c .before .before .before .before in
-    logs-full _ _ (create _ _ _) _ refl (create-room _ _ _ _ (i .before .has-room .ensures)) (i .if1 .taken) (c .create-full .ensures))
+    logs-full _ _ (create _ _ _) _ refl (create-room _ _ _ _ (i .before .has-room .ensures) .1 (i .if1 .taken)) (c .create-full .ensures))
     (λ c κs. tt)
     (λ c κs. tt)
     (λ c. search needs)
     (λ c. search needs)
     (λ c. search needs)
     (λ c. search needs)
-    (λ c.
-    let k = c .before .before .before .before .before .before .before .before in
-    logs-refused _ _ (create _ _ _) _ (k .create .ensures) (c .before .is-refused .ensures) (c .if2 .taken))
+    (λ c. logs-refused _ _ (create _ _ _) _ (c .before .before .before .before .before .before .before .before .create .ensures) (c .before .is-refused .ensures) (c .if2 .taken))
     (λ c κs.
     let j = c .before .before in
     let k = j .before .before .before .before .before .before .before .before in
     let i = k .before .before .before .before in
-    fits _ _ (create _ _ _) _ (k .create .ensures) (j .before .is-refused .ensures) (j .if2 .left) (create-room _ _ _ _ (i .before .has-room .ensures)) (i .if1 .left))
+    fits _ _ (create _ _ _) _ (k .create .ensures) (j .before .is-refused .ensures) (j .if2 .left) (create-room _ _ _ _ (i .before .has-room .ensures) .0 (i .if1 .left)))
     (λ c. search needs)
     (λ c. search needs)
     (λ c. search needs)
@@ -46,4 +44,4 @@ create-spec =
     let j = p .before .before .before in
     let k = j .before .before .before .before .before .before .before .before in
     let i = k .before .before .before .before in
-    logs-enters _ _ (create _ _ _) _ (k .create .ensures) (j .before .is-refused .ensures) refl (create-room _ _ _ _ (i .before .has-room .ensures)) (i .if1 .left) (j .if2 .left) (p .append-create .ensures)))
+    logs-enters _ _ (create _ _ _) _ (k .create .ensures) (j .before .is-refused .ensures) refl (create-room _ _ _ _ (i .before .has-room .ensures) .0 (i .if1 .left)) (j .if2 .left) (p .append-create .ensures)))

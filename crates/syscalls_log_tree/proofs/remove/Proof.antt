@@ -21,20 +21,18 @@ remove-spec =
     (λ c. search needs)
     (λ c.
     let i = c .before .before .before in
-    logs-full _ _ (remove _) _ refl (remove-room _ _ (i .before .has-room .ensures)) (i .if1 .taken) (c .remove-full .ensures))
+    logs-full _ _ (remove _) _ refl (remove-room _ _ (i .before .has-room .ensures) .1 (i .if1 .taken)) (c .remove-full .ensures))
     (λ c κs. tt)
     (λ c κs. tt)
     (λ c. search needs)
     (λ c. search needs)
     (λ c. search needs)
-    (λ c.
-    let k = c .before .before .before .before .before .before in
-    logs-refused _ _ (remove _) _ (k .remove .ensures) (c .before .is-refused .ensures) (c .if2 .taken))
+    (λ c. logs-refused _ _ (remove _) _ (c .before .before .before .before .before .before .remove .ensures) (c .before .is-refused .ensures) (c .if2 .taken))
     (λ c κs.
     let j = c .before .before in
     let k = j .before .before .before .before .before .before in
     let i = k .before .before .before in
-    fits _ _ (remove _) _ (k .remove .ensures) (j .before .is-refused .ensures) (j .if2 .left) (remove-room _ _ (i .before .has-room .ensures)) (i .if1 .left))
+    fits _ _ (remove _) _ (k .remove .ensures) (j .before .is-refused .ensures) (j .if2 .left) (remove-room _ _ (i .before .has-room .ensures) .0 (i .if1 .left)))
     (λ c. search needs)
     (λ c. search needs)
     (λ c. search needs)
@@ -43,4 +41,4 @@ remove-spec =
     let j = p .before .before .before in
     let k = j .before .before .before .before .before .before in
     let i = k .before .before .before in
-    logs-enters _ _ (remove _) _ (k .remove .ensures) (j .before .is-refused .ensures) refl (remove-room _ _ (i .before .has-room .ensures)) (i .if1 .left) (j .if2 .left) (p .append-remove .ensures)))
+    logs-enters _ _ (remove _) _ (k .remove .ensures) (j .before .is-refused .ensures) refl (remove-room _ _ (i .before .has-room .ensures) .0 (i .if1 .left)) (j .if2 .left) (p .append-remove .ensures)))
