@@ -14,7 +14,8 @@ skein-rename-spec =
     (λ c. search needs)
     (λ c. search needs)
     (λ c. search needs)
+    (λ c. search needs)
     (λ c.
     let w = c .before .before .before in
-    let a = w .before .before .before .before .before .before .rename .ensures in
+    let a = w .before .before .before .before .before .before .before .before .rename .ensures in
     (tells _ _ _ (a .0) (c .number .ensures) (w .report-denial .ensures), a .1)))
