@@ -636,16 +636,7 @@ pub extern "C" fn skein_replay(
 ) -> u64
     ensures { λ answer. ⌜ Answers answer (after system entries rulesets layers pool threads names) (replayNamed (before system entries rulesets layers pool threads names) (now (log .entry))) ⌝ }
 {
-    number(syscalls_replay::replay(
-        system,
-        entries,
-        rulesets,
-        layers,
-        pool,
-        threads,
-        names,
-        log,
-    ))
+    number(syscalls_replay::replay(system, entries, rulesets, layers, pool, threads, names, log))
 }
 
 // `span` receives the first pool cell of the layer's rules and their number of cells.
