@@ -20,8 +20,12 @@ pub fn run(effort: Effort) {
         "ratio",
     ]);
     for (name, tables) in [
-        ("ruleset A of document 01", worked()),
+        ("2 rules, 3 entries", two_rules()),
         ("64 rules, 1,000 entries", wide()),
+        (
+            "64 rules on paths of 489 bytes, 240 deep",
+            below(b"d", 240, 64, 1, 8),
+        ),
         ("64 rules on paths of 499 bytes", deep(10, 64, 1, 8)),
         ("64 rules on paths of 4,095 bytes", deep(83, 64, 1, 27)),
         ("64 rules, 1,023 directories in one another", chain()),
@@ -90,7 +94,7 @@ impl Tree {
 }
 
 /// Two directories with a rule on each.
-fn worked() -> Tables {
+fn two_rules() -> Tables {
     let mut tree = Tree::new();
     for name in [&b"cal"[..], b"import"] {
         let directory = tree.put(DIRECTORY, 0, name);
@@ -116,8 +120,13 @@ fn wide() -> Tables {
 /// Directories in one another with names of 48 bytes; in the last one so many files with rules, each with so many links whose names
 /// have a length, the first in byte order last.
 fn deep(directories: u64, rules: u64, links: u64, name: usize) -> Tables {
+    below(&[b'd'; 48], directories, rules, links, name)
+}
+
+/// The same with another name for the directories.
+fn below(directory: &[u8], count: u64, rules: u64, links: u64, name: usize) -> Tables {
     let mut tree = Tree::new();
-    let above = (0..directories).fold(0, |parent, _| tree.put(DIRECTORY, parent, &[b'd'; 48]));
+    let above = (0..count).fold(0, |parent, _| tree.put(DIRECTORY, parent, directory));
     for rule in 0..rules {
         let names = (0..links).map(|link| format!("{:0>name$}", rule * links + links - link));
         let mut names = names.collect::<Vec<String>>().into_iter();

@@ -1,8 +1,10 @@
 //! Requests W4 and W7: policy files. What a name means in two of them, and what applying it does.
 //!
-//! [`read`] reads a file whole, and [`write`](mod@write) writes one; [`files`] makes random and damaged ones, [`trees`] tables to write them of.
+//! [`read`] reads a file whole, and [`write`](mod@write) writes one; [`files`] makes random and damaged ones,
+//! [`trees`] tables to write them of, and [`met`] says what these are to meet.
 
 pub mod files;
+pub mod met;
 pub mod read;
 pub mod trees;
 pub mod write;
