@@ -2,22 +2,35 @@
 
 use crate::batch::Batch;
 use crate::call::{Broker, Call, Reply};
+use crate::log::{Log, LONGEST_FIELD};
 use crate::policy::write::{cells_of, Writing};
 use crate::policy::Wanted;
 use crate::queue::cells::QueueCells;
 use crate::queue::Request;
 use crate::reference::Rereading;
 use crate::tables::Tables;
-use skeinrabbit_sys::{Cells, NoLog, SharedCells};
+use skeinrabbit_sys::{Cells, SharedCells};
 
 /// The proved core.
 pub struct Core;
 
 impl Broker for Core {
     fn answer(&mut self, tables: &mut Tables, call: &Call) -> Reply {
+        self.answer_logged(tables, &mut Log::empty(LONGEST_FIELD), call)
+    }
+
+    fn answer_logged(&mut self, tables: &mut Tables, log: &mut Log, call: &Call) -> Reply {
         let mut report = call.unwritten_report();
-        let number = core_answer(&mut cells(tables), call, &mut report);
+        let log = &mut skeinrabbit_sys::Log {
+            bytes: &mut log.bytes,
+            used: &mut log.used,
+        };
+        let number = core_answer(&mut cells(tables), call, log, &mut report);
         Reply { number, report }
+    }
+
+    fn replay(&mut self, tables: &mut Tables, log: &[u8]) -> u64 {
+        skeinrabbit_sys::replay(&mut cells(tables), log)
     }
 
     fn post(&mut self, queue: &mut QueueCells, slot: u64, request: Request) -> u64 {
@@ -80,13 +93,30 @@ impl Both {
 
 impl Broker for Both {
     fn answer(&mut self, tables: &mut Tables, call: &Call) -> Reply {
-        let mut by_model = tables.clone();
-        let model = Rereading.answer(&mut by_model, call);
-        let core = Core.answer(tables, call);
+        self.answer_logged(tables, &mut Log::empty(LONGEST_FIELD), call)
+    }
+
+    fn answer_logged(&mut self, tables: &mut Tables, log: &mut Log, call: &Call) -> Reply {
+        let (mut by_model, mut model_log) = (tables.clone(), log.clone());
+        let model = Rereading.answer_logged(&mut by_model, &mut model_log, call);
+        let core = Core.answer_logged(tables, log, call);
         assert_eq!(core, model, "core and model answer differently: {call:?}");
         assert!(
             *tables == by_model,
             "core and model leave other cells: {call:?}"
+        );
+        assert_eq!(*log, model_log, "core and model log differently: {call:?}");
+        core
+    }
+
+    fn replay(&mut self, tables: &mut Tables, log: &[u8]) -> u64 {
+        let mut by_model = tables.clone();
+        let model = Rereading.replay(&mut by_model, log);
+        let core = Core.replay(tables, log);
+        assert_eq!(core, model, "core and model answer differently: {log:?}");
+        assert!(
+            *tables == by_model,
+            "core and model leave other cells: {log:?}"
         );
         core
     }
@@ -233,9 +263,12 @@ macro_rules! core_answer {
     };
 }
 
-fn core_answer(tables: &mut Cells, call: &Call, report: &mut [u64]) -> u64 {
-    let log = &mut NoLog::new();
-    let log = &mut log.log();
+fn core_answer(
+    tables: &mut Cells,
+    call: &Call,
+    log: &mut skeinrabbit_sys::Log,
+    report: &mut [u64],
+) -> u64 {
     core_answer! {
         tables, call, log, report;
         Fresh fresh(level);
