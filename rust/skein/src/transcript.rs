@@ -65,7 +65,13 @@ pub fn counted(count: usize, noun: &str) -> String {
 /// What a line says of an answer that it does not allow.
 pub fn verdict(played: &Played) -> String {
     let verdict = match &played.statement.expected {
-        Some(expected) => format!("expected {expected}"),
+        Some(expected) => {
+            let expected = expected.to_string();
+            format!(
+                "expected {}",
+                each_word(&expected, |word| cut(word, WIDEST_PART))
+            )
+        }
         None => "must succeed".to_owned(),
     };
     match played.statement.rounds {
@@ -143,10 +149,8 @@ fn slot_lines(played: &Played) -> Vec<String> {
 
 /// How far a line that goes on is indented.
 const INDENT: usize = 4;
-/// The widest that a part of a path is shown.
+/// The widest that a part of a path, a word of a policy file or one of what is expected is shown.
 const WIDEST_PART: usize = 40;
-/// The widest that a line of a policy file is shown.
-const WIDEST_LINE: usize = 120;
 /// The widest column of answers. Wider ones have a line of their own.
 const WIDEST_ANSWER: usize = 24;
 
@@ -284,7 +288,10 @@ fn written_file(played: &Played) -> Vec<String> {
     match played.answer {
         Answer::Written(_) => {
             let text = show(&played.part);
-            text.lines().map(|line| cut(line, WIDEST_LINE)).collect()
+            let lines = text.lines();
+            lines
+                .map(|line| each_word(line, |word| cut(word, WIDEST_PART)))
+                .collect()
         }
         _ => Vec::new(),
     }
@@ -313,11 +320,16 @@ fn part(played: &Played) -> Option<String> {
 
 /// The call and its arguments, with what is very long cut.
 fn call_text(played: &Played, widest: usize) -> String {
-    let pieces = played.statement.text.split_inclusive([' ', '+']);
+    each_word(&played.statement.text, |word| shown(word, widest))
+}
+
+/// A text with each of its words, and of joined rights each right, as it is to be shown.
+fn each_word(text: &str, shown: impl Fn(&str) -> String) -> String {
+    let pieces = text.split_inclusive([' ', '+']);
     let pieces = pieces.map(|piece| {
         let word = piece.trim_end_matches([' ', '+']);
         let end = piece.strip_prefix(word).unwrap_or_default();
-        format!("{}{end}", shown(word, widest))
+        format!("{}{end}", shown(word))
     });
     pieces.collect()
 }

@@ -1,4 +1,5 @@
 //! Tests of the reader.
+use super::report::ReportWords;
 use super::*;
 use skeinrabbit::{
     Attribute, Entry, Errno, Kind, Layer, PortRights, QueuePart, Rights, Scopes, Slot, SlotState,
@@ -98,7 +99,7 @@ fn names_and_answers_are_taken_off() {
 fn every_form_of_answer_is_read() {
     let expected = |answer: &str| {
         let read = statement(&format!("clone main => {answer}"));
-        let Expected { answer, report } = read.expected.unwrap();
+        let Expected { answer, report, .. } = read.expected.unwrap();
         assert!(report.is_empty());
         answer
     };
