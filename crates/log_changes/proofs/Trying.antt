@@ -19,12 +19,12 @@ use Rattle.tree.specs.Exchange.{swapped}
 use Rattle.names.specs.Names.{maxName, nameChecks, putName, clearName, bearer}
 use Rattle.named.specs.Tree.{newName, newNames, renamedNames, swappedNames}
 use Rattle.named.proofs.Listed.{name-ok}
-use Rattle.named.proofs.Orders.{new-early, name-early}
+use Rattle.named.proofs.Orders.{new-early}
 use Rattle.log.specs.Changes.{Change, create, remove, link, rename, exchange}
 use Rattle.log.specs.Tree.{Tree, createPlace, movePlace, noEntry, noObject, treeChecks, changed, idle}
 use Rattle.log_checks.specs.Checks.{treeWith}
 use Rattle.log_checks.proofs.Places.{create-refuses, move-refuses}
-use Rattle.log_changes.specs.Tried.{Tried, triedAs, accepted, tried}
+use Rattle.log_changes.specs.Tried.{triedAs, accepted, tried}
 
 module _ (S : Tree) (c : Change) where
   -- a check refuses it

@@ -12,12 +12,12 @@ use Rattle.syscalls_replay.proofs.replay.Statement.{statement}
 use Rattle.syscalls_replay.proofs.replay.Tie as tie
 
 -- the tables at the call
-abbrev lent : tie.Else1 → Named
-lent c =
+abbrev at-call : tie.Else1 → Named
+at-call c =
     let a = c .before .before .before .before .before .before .before .before .before .before .before .before .before .args in
     withNames (tables (a .system .now) (a .entries .now) (a .rulesets .now) (a .layers .now) (a .pool .now) (a .threads .now)) (a .names .now)
 
-sound-here : (c : tie.Else1) → namedSound (lent c) ≡ true
+sound-here : (c : tie.Else1) → namedSound (at-call c) ≡ true
 sound-here c = sym (c .before .named-sound .ensures) ∙ not-false _ (c .if1 .left)
 
 pub replay-spec : {M : Type 1} → statement M
@@ -34,7 +34,7 @@ replay-spec =
     (λ c κs.
     let o = c .before .before .before in
     let i = o .before .before in
-    starts (lent i) (sound-here i) (o .counter-of .ensures))
+    starts (at-call i) (sound-here i) (o .counter-of .ensures))
     (λ c. search needs)
     (λ c. search needs)
     (λ c. search needs)
@@ -44,7 +44,7 @@ replay-spec =
     let f = c .before .before .before .before .before .before in
     let o = f .before .before .before .before in
     let i = o .before .before in
-    bad-field (lent i) (sound-here i) (o .counter-of .ensures) _ _ _ (f .replay-tree .ensures .0) (f .replay-tree .ensures .1) (c .enum-told .given .1))
+    bad-field (at-call i) (sound-here i) (o .counter-of .ensures) _ _ _ (f .replay-tree .ensures .0) (f .replay-tree .ensures .1) (c .enum-told .given .1))
     (λ c κs. tt)
     (λ c. search needs)
     (λ c. search needs)
@@ -55,4 +55,4 @@ replay-spec =
     let f = d .before .before .before .before .before .before in
     let o = f .before .before .before .before in
     let i = o .before .before in
-    applied (lent i) (sound-here i) (o .counter-of .ensures) _ _ _ (f .replay-tree .ensures .0) _ (d .replayed .given .1) (w .write .ensures)))
+    applied (at-call i) (sound-here i) (o .counter-of .ensures) _ _ _ (f .replay-tree .ensures .0) _ (d .replayed .given .1) (w .write .ensures)))
