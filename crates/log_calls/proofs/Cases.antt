@@ -1,12 +1,10 @@
 -- How code comes to the outcome of a tree call with a log, and to the log, by cases on any change. Assumes nothing.
 use mathlib.Core.Path.{_≡_, refl, sym, ap, _∙_}
 use mathlib.Core.Bool.{Bool, true, false, not}
-use mathlib.Core.List.{List}
 use Prim.Native.Nat.{ℕ, _<_}
 use native.Mathlib.Omega.{arith}
 use lib.Dec.{eqb, ltb}
 use borrow.Author.Tests.{not-false, ltb-false}
-use Rattle.laws.specs.Refusals.{first}
 use Rattle.laws.proofs.Bools.{split, or-r, not-of-true}
 use Rattle.laws.proofs.Refusals.{passed}
 use Rattle.access.specs.Kinds.{lastKind}
@@ -21,10 +19,10 @@ use Rattle.theorems.specs.Calls.{isDone}
 use Rattle.named.specs.Named.{Named, NamedOutcome, namedOutcome, namedRefused}
 use Rattle.named.specs.Tree.{newName}
 use Rattle.names.specs.Names.{nameChecks}
-use Rattle.named.specs.Calls.{outcomeNamed, afterNamed, replyNamed}
+use Rattle.named.specs.Calls.{outcomeNamed, replyNamed}
 use Rattle.named.proofs.Made.{core-sound}
 use Rattle.log.specs.Changes.{Change, create, remove, link, rename, exchange, callOf, fieldOf}
-use Rattle.log.specs.Tree.{treeOf, createPlace, removePlace, movePlace, exchangePlace, treeChecks, sameTree, idle}
+use Rattle.log.specs.Tree.{treeOf, createPlace, removePlace, movePlace, exchangePlace, treeChecks, idle}
 use Rattle.log.specs.Logged.{Log, hasRoom, append, alters, enters, loggedOutcome, loggedLog}
 use Rattle.log.proofs.Trees.{same-self}
 use Rattle.log.proofs.Idle.{same-idle}
