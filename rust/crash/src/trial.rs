@@ -94,7 +94,11 @@ impl Trial<'_> {
         self.mirror.begin();
         let mut told = vec![self.mirror.place()];
         let mut requests = String::new();
-        for _ in 0..self.random.pick(&[2, 10, 40]) {
+        let count = match whole {
+            true => 60,
+            false => self.random.pick(&[2, 10, 40]),
+        };
+        for _ in 0..count {
             let call = tree_call(&self.mirror.model, &mut self.random);
             self.mirror.request(&call);
             told.push(self.mirror.place());
