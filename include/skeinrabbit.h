@@ -3,12 +3,12 @@
  *
  * All state lies in one `struct skein_tables`, which the caller owns. Make it fresh once, then pass it to every call. Nothing is
  * allocated, and a refused call changes no cell. Requests that are to be answered in turn wait in a `struct skein_queue`; many
- * that are to be answered at once are an array of `struct skein_request`. Rulesets may also come from policy files. Changes of the
- * tree can be kept in a `struct skein_log`, and made again from it.
+ * that are to be answered at once are an array of `struct skein_request`. Rulesets may also come from policy files, and be written
+ * into one. Changes of the tree can be kept in a `struct skein_log`, and made again from it.
  *
- * Every call answers a number of zero or more (a new entry, ruleset or thread where one is made, else 0), or a negative error
- * number. Each comment below lists a call's refusals in the order in which they are tested. Before all of them, every call but
- * skeinrabbit_fresh answers -EIO if the tables are not sound. A number out of range counts as not live or not open.
+ * Every call answers a number of zero or more (a new entry, ruleset or thread where one is made, what its comment says, else 0),
+ * or a negative error number. Each comment below lists a call's refusals in the order in which they are tested. Before all of them,
+ * every call but skeinrabbit_fresh answers -EIO if the tables are not sound. A number out of range counts as not live or not open.
  *
  * Requests about entries and ports and changes of the tree have a last argument `report`, which may be NULL. It is written with
  * every answer: where a layer refuses (EACCES, EXDEV) it says which layer and which rights, and none with every other answer.
@@ -23,11 +23,11 @@
  * Any cells and any numbers are answered. A call is defined if
  * - every pointer is valid for what it points to (a whole struct skein_tables, skein_queue or skein_log, `size` bytes, `count` requests
  *   or verdicts), aligned for its type and not NULL.
- *   Only an attribute, a name, a path, a policy file, the bytes of a log that is replayed or the names of a batch may be NULL, and count
- *   as no bytes then, whatever their size; and a report, a log, and the requests and verdicts of a batch without requests;
- * - none of these overlap: the tables, a queue, the bytes of an attribute, a name, a path, a policy file or a log, a struct skein_log, a
- *   report, the requests, names and verdicts of a batch, and the two places where skeinrabbit_layer_rules and skeinrabbit_component
- *   report. Two policy files may be the same bytes;
+ *   Only an attribute, a name, a path, a policy file, the room for one, the bytes of a log that is replayed or the names of a batch may be
+ *   NULL, and count as no bytes then, whatever their size; and a report, a log, and the requests and verdicts of a batch without requests;
+ * - none of these overlap: the tables, a queue, the bytes of an attribute, a name, a path, a policy file or a log, the room for a policy
+ *   file, a struct skein_log, a report, the requests, names and verdicts of a batch, and the two places where skeinrabbit_layer_rules and
+ *   skeinrabbit_component report. Two policy files may be the same bytes;
  * - 96 KiB of stack are left, for skeinrabbit_batch 1 MiB (docs/PERFORMANCE.md), which a thread or coroutine with a small stack
  *   may not have;
  * - no other call on the same tables or the same queue runs meanwhile, from a thread or from a signal handler. Calls on others may;
@@ -350,12 +350,12 @@ struct skein_policy_report {
  * take none. A `report` may have any number of cells: those that fit are written, and cells past them stay as they were. The parts of a queue may have any
  * length, too; `cursor` is one cell, and a call on a queue with a part of a wrong length answers EIO. So may the lists of a batch: one
  * whose requests end within a request, or with fewer than 3 cells for the verdict of each, is EINVAL, and cells past the last verdict
- * stay.
+ * stay. Bytes of `out` past the file stay, and all of them where a call is refused.
  * The changes of the tree take the bytes of a log, of any length, and `used`, one cell, which may hold any number; skein_replay takes
  * the written bytes of one.
  * Each pointer must be aligned (cells to 8 bytes) and valid for its length, and not NULL even if the length is 0. The tables, the
- * parts of a queue, the lists of a batch, the bytes of an attribute, a name, a path, a policy file or a log, `used`, a report and the
- * report `part` must not overlap.
+ * parts of a queue, the lists of a batch, the bytes of an attribute, a name, a path, a policy file or a log, the bytes `out`, `used`, a
+ * report and the report `part` must not overlap.
  */
 #define SKEIN_TABLE_PARAMETERS(cell, byte) \
 	cell *system_cells, size_t system_length, cell *entries, size_t entries_length, cell *rulesets, \
@@ -407,6 +407,8 @@ extern uint64_t skein_find_policy(const uint8_t *stock, size_t stock_length, con
 				  const uint8_t *name, size_t name_length, uint64_t *report, size_t report_length);
 extern uint64_t skein_apply_policy(SKEIN_TABLES, const uint8_t *stock, size_t stock_length, const uint8_t *site, size_t site_length,
 				   const uint8_t *name, size_t name_length, uint64_t *report, size_t report_length);
+extern uint64_t skein_write_policy(SKEIN_CONST_TABLES, uint64_t ruleset, const uint8_t *name, size_t name_length, uint8_t *out,
+				   size_t out_length);
 
 /* The parts of a queue as the arguments of an archive's function. */
 #define SKEIN_QUEUE_ARGUMENTS(q) \
@@ -571,6 +573,27 @@ static inline int64_t skeinrabbit_apply_policy(struct skein_tables *t, const voi
 						   skeinrabbit_length(name, name_size), cells, SKEIN_POLICY_REPORT_CELLS);
 
 	return skeinrabbit_policy_reported(result, cells, report);
+}
+
+/*
+ * Writes an open ruleset as a policy file with this one ruleset under a name; answers the file's length, at most SKEIN_MAX_POLICY.
+ * After name and masks come the path rules in the byte order of their paths, then the port rules by rising ports, without groups and
+ * each with all its rights. A rule's path is that of its object's entry; of several entries the first in byte order is taken.
+ * skeinrabbit_apply_policy with the file and the name opens a ruleset of the same masks and rights, as long as the tree stays.
+ * Bytes of `out` past the file's length stay as they were; with a refusal all of them do.
+ * EOPNOTSUPP level 0; EBADF ruleset not open; EINVAL name not of 1 to 32 bytes; EPERM a rule on the root that
+ * skeinrabbit_add_path_rule refuses so (in tables that something else has written); ENOENT a rule whose object has no entry left;
+ * ENAMETOOLONG a rule's path longer than 4,095 bytes, whatever other paths its object has; E2BIG a file longer than 32,768 bytes;
+ * ENOSPC a file longer than `size`. Each of these is tested for all rules before the next.
+ */
+static inline int64_t skeinrabbit_write_policy(const struct skein_tables *t, uint64_t ruleset, const void *name, size_t name_size,
+					       void *out, size_t size)
+{
+	uint8_t no_room = 0;
+	uint8_t *const room = out == NULL ? &no_room : (uint8_t *)out;
+
+	return skeinrabbit_answer(skein_write_policy(SKEIN_TABLE_ARGUMENTS(t), ruleset, skeinrabbit_bytes(name, name_size),
+						     skeinrabbit_length(name, name_size), room, skeinrabbit_length(out, size)));
 }
 
 /*

@@ -549,6 +549,52 @@ static void groups(struct skein_tables *t)
 		      (uint64_t)size, 0);
 }
 
+/* A policy file that is written: request W12's 64 bytes of the worked tree's ruleset 0. */
+static void written_policy(struct skein_tables *t)
+{
+	static const uint8_t masks[24] = { 0x26, 0x21 };
+	static struct skein_tables before;
+	uint8_t file[64], out[80], left[80];
+	size_t end = put_field(file, 0, SKEIN_POLICY_RULESET, "p", 1);
+
+	end = put_field(file, end, SKEIN_POLICY_MASKS, masks, 24);
+	end = put_path_rule(file, end, "/cal");
+	end = put_field(file, end, SKEIN_POLICY_PATH_RULE, "\x26\x21\0\0\0\0\0\0/import", 15);
+	expect("bytes of ruleset A", (int64_t)end, 64);
+	memset(out, 7, sizeof(out));
+	memset(left, 7, sizeof(left));
+	worked_tree(t, SKEIN_FS_READ_FILE);
+	before = *t;
+	expect("write_policy, one byte short", skeinrabbit_write_policy(t, 0, "p", 1, out, 63), -SKEIN_ENOSPC);
+	expect("write_policy, no room", skeinrabbit_write_policy(t, 0, "p", 1, NULL, 80), -SKEIN_ENOSPC);
+	expect("write_policy, no name", skeinrabbit_write_policy(t, 0, NULL, 1, out, 80), -SKEIN_EINVAL);
+	expect("write_policy, a long name",
+	       skeinrabbit_write_policy(t, 0, "123456789012345678901234567890123", SKEIN_MAX_RULESET_NAME + 1, out, 80), -SKEIN_EINVAL);
+	expect("write_policy, not open", skeinrabbit_write_policy(t, 1, "p", 1, out, 80), -SKEIN_EBADF);
+	expect("output after refusals", memcmp(out, left, sizeof(out)), 0);
+	expect("write_policy, the room of the file", skeinrabbit_write_policy(t, 0, "p", 1, out, 64), 64);
+	expect("its bytes", memcmp(out, file, 64), 0);
+	expect("bytes past them", memcmp(out + 64, left + 64, sizeof(out) - 64), 0);
+	memset(out, 7, sizeof(out));
+	expect("write_policy, more room", skeinrabbit_write_policy(t, 0, "p", 1, out, sizeof(out)), 64);
+	expect("its bytes", memcmp(out, file, 64), 0);
+	expect("bytes past them", memcmp(out + 64, left + 64, sizeof(out) - 64), 0);
+	expect("tables after writing", memcmp(t, &before, sizeof(before)), 0);
+	expect("apply_policy of what was written", skeinrabbit_apply_policy(t, out, 64, NULL, 0, "p", 1, NULL), 1);
+	expect("its rules", memcmp(t->rulesets, t->rulesets + SKEIN_RULESET_CELLS, SKEIN_RULESET_CELLS * sizeof(uint64_t)), 0);
+	/* A rule on the root with a right to write, which no call adds. */
+	t->rulesets[5] = 0;
+	t->rulesets[6] = SKEIN_FS_WRITE_FILE;
+	expect("write_policy, the root", skeinrabbit_write_policy(t, 0, "p", 1, out, 80), -SKEIN_EPERM);
+	/* An object that had an entry once. */
+	t->rulesets[5] = t->system[1]++;
+	expect("write_policy, no entry left", skeinrabbit_write_policy(t, 0, "p", 1, out, 80), -SKEIN_ENOENT);
+	t->system[0] = SKEIN_MAX_LEVEL + 1;
+	expect("write_policy, tables not sound", skeinrabbit_write_policy(t, 0, "p", 1, out, 80), -SKEIN_EIO);
+	expect("fresh", skeinrabbit_fresh(t, 0), 0);
+	expect("write_policy, level 0", skeinrabbit_write_policy(t, 0, "p", 1, out, 80), -SKEIN_EOPNOTSUPP);
+}
+
 /* Policy files, on the worked tree. */
 static void policy_files(struct skein_tables *t)
 {
@@ -726,6 +772,7 @@ int main(void)
 	damaged_queue(t);
 	batch(t);
 	policy_files(t);
+	written_policy(t);
 	logs(t);
 	limits(t);
 	return differences == 0 ? 0 : 1;

@@ -35,6 +35,7 @@ ghost use Rattle.named.specs.Slices.{before, after};
 ghost use Rattle.named.specs.Queue.{answerOf, turnNamed};
 ghost use Rattle.named.specs.Batch.{batchOf, batchNamed};
 ghost use Rattle.named.specs.Tree.{createNamed, removeNamed, linkNamed, renameNamed, exchangeNamed};
+ghost use Rattle.named.specs.Write.{writeNamed, writtenOut};
 ghost use Rattle.path.specs.Span.{shownStart};
 ghost use Rattle.capi.specs.Codes.{Answers, Tells, TellsAccess, FindsPolicy, AppliesPolicy, Posts, spanFrom};
 
@@ -800,5 +801,36 @@ pub extern "C" fn skein_apply_policy<'a>(
         site,
         name,
         report,
+    ))
+}
+
+// Writes the policy file of a ruleset over the start of `out` and answers its length.
+#[no_mangle]
+pub extern "C" fn skein_write_policy(
+    system: &[u64],
+    entries: &[u64],
+    rulesets: &[u64],
+    layers: &[u64],
+    pool: &[u64],
+    threads: &[u64],
+    names: &[u8],
+    r: u64,
+    name: &[u8],
+    out: &mut [u8],
+) -> u64
+    ensures answer { λ q. ⌜ Answers q (after system entries rulesets layers pool threads names) (writeNamed (before system entries rulesets layers pool threads names) r (now (name .entry)) (now (out .entry))) ⌝ }
+    ensures output { λ q. ⌜ now (out .exit) ≡ writtenOut (before system entries rulesets layers pool threads names) r (now (name .entry)) (now (out .entry)) ⌝ }
+{
+    number(syscalls_write::write_policy(
+        system,
+        entries,
+        rulesets,
+        layers,
+        pool,
+        threads,
+        names,
+        r,
+        name,
+        out,
     ))
 }

@@ -9,13 +9,14 @@ use lib.Seq.{sets, sets-eq}
 use borrow.Author.Tests.{eq-eqb, ne-eqb}
 use Rattle.laws.specs.Refusals.{Check, first}
 use Rattle.laws.proofs.Refusals.{first-is, none, hit-lt, miss-le}
+use Rattle.access.specs.Errno.{E2BIG, ENOSPC}
 use Rattle.access.specs.Limits.{maxRules}
 use Rattle.access.specs.declared.errno.Reply.{Reply}
 use Rattle.access.specs.declared.errno.Reply.the-variants.{Done, Refused}
 use Rattle.tables.specs.Tables.{pathRule, portRule}
 use Rattle.tables.specs.Layers.{rulesetAt, rulesetFs, rulesetNet, rulesetScope}
 use Rattle.sound_rules.specs.Rules.{ruleCount}
-use Rattle.names.specs.Paths.{pathOf}
+use Rattle.names.specs.Paths.{maxPath, pathOf}
 use Rattle.policy.specs.Fields.{bytesOf, header, rulesetTag, masksTag}
 use Rattle.policy.specs.Files.{masksSize}
 use Rattle.policy.specs.Grammar.{portSize}
@@ -51,11 +52,11 @@ module _ (cs : List Check) (file : List ℕ) {e : ℕ} (q : e ≡ first cs) wher
 
 -- what the length of the file answers
 module _ (file out : List ℕ) where
-  pub too-big : maxFile < length file → 7 ≡ first (writeRoom (length file) (length out))
+  pub too-big : maxFile < length file → E2BIG ≡ first (writeRoom (length file) (length out))
   unfolding writeRoom
   too-big h = first-is (hit-lt h)
 
-  pub no-room : length file ≤ maxFile → length out < length file → 28 ≡ first (writeRoom (length file) (length out))
+  pub no-room : length file ≤ maxFile → length out < length file → ENOSPC ≡ first (writeRoom (length file) (length out))
   unfolding writeRoom
   no-room h g = first-is (miss-le h (hit-lt g))
 
@@ -86,7 +87,7 @@ module _ (es rs ns : List ℕ) (r : ℕ) (name rules picks : List ℕ) (C : Chos
         few = omega arith;
         room = omega arith;
         known = λ j h. let n = D .by-path .numbers j h .0 in omega arith;
-        short = λ j h. let n = D .by-path .numbers j h in subst (λ (e : ℕ). length (pathOf es ns e) ≤ 4095) (sym (C .picked .entry (getD paths j 0) (n .0) (n .1))) (C .short (getD paths j 0) (n .0) (n .1));
+        short = λ j h. let n = D .by-path .numbers j h in subst (λ (e : ℕ). length (pathOf es ns e) ≤ maxPath) (sym (C .picked .entry (getD paths j 0) (n .0) (n .1))) (C .short (getD paths j 0) (n .0) (n .1));
       }
 
   pub ports-few : k ≤ maxRules

@@ -13,7 +13,7 @@ mod tables;
 use measure::Effort;
 use sections::{Section, SECTIONS};
 
-const USAGE: &str = "usage: bench [--quick] [parts|verdicts|batch|calls|files|soundness]..";
+const USAGE: &str = "usage: bench [--quick] [parts|verdicts|batch|calls|files|written|soundness]..";
 
 struct Options {
     effort: Effort,

@@ -3,6 +3,7 @@
 use crate::batch::Batch;
 use crate::log::{field, other_tree, Log};
 use crate::names::component;
+use crate::policy::write::{cells_of, Writing};
 use crate::policy::Wanted;
 use crate::queue::cells::QueueCells;
 use crate::queue::{answered, Request};
@@ -209,7 +210,7 @@ impl Reply {
 }
 
 /// Something that answers calls on tables of any length and contents, and keeps a log and a queue,
-/// answers batches and reads policy files as the model does unless it says otherwise.
+/// answers batches, reads and writes policy files as the model does unless it says otherwise.
 pub trait Broker {
     /// Answers a call; one that changes the tree has a log with room.
     fn answer(&mut self, tables: &mut Tables, call: &Call) -> Reply;
@@ -274,6 +275,15 @@ pub trait Broker {
             Err(_) => (Err(Refusal::NotSound), [0; 3]),
         };
         Reply::of(answer, wanted.report_of(report))
+    }
+
+    /// Writes the policy file of a ruleset; reports every byte of the output.
+    fn write_policy(&mut self, tables: &mut Tables, writing: &Writing) -> Reply {
+        let (answer, out) = match check(tables) {
+            Ok(model) => model.write_policy(writing),
+            Err(_) => (Err(Refusal::NotSound), writing.unwritten()),
+        };
+        Reply::of(answer, cells_of(&out))
     }
 }
 

@@ -8,7 +8,8 @@ use crate::generate::{access_request, call, every_call, Mix};
 use crate::log::history::History;
 use crate::log::{field, made, Log};
 use crate::odd::{random_cells, wrong_lengths, Odd};
-use crate::policy::{files, Wanted};
+use crate::policy::write::Writing;
+use crate::policy::{files, trees, Wanted};
 use crate::queue::cells::{QueueCells, QueuePart};
 use crate::queue::event::{self, Event};
 use crate::queue::SLOTS;
@@ -35,6 +36,7 @@ pub enum Step {
     Batch(Batch),
     FindPolicy(Wanted),
     ApplyPolicy(Wanted),
+    WritePolicy(Writing),
     /// Another log for the calls that change the tree.
     Log(Log),
     Replay(Vec<u8>),
@@ -49,6 +51,7 @@ impl Step {
             Step::Batch(_) => Some("batch"),
             Step::FindPolicy(_) => Some("find_policy"),
             Step::ApplyPolicy(_) => Some("apply_policy"),
+            Step::WritePolicy(_) => Some("write_policy"),
             Step::Replay(_) => Some("replay"),
             Step::Damage(_) | Step::Resize { .. } | Step::Log(_) => None,
         }
@@ -116,7 +119,7 @@ impl<B: Broker> Pair<'_, B> {
     }
 
     /// Takes a step on both sides; answers the model's answer to a call, a post, a turn, a batch, a name in policy
-    /// files or a replay, and how the sides differ.
+    /// files, a file to write or a replay, and how the sides differ.
     fn take(&mut self, step: &Step) -> (Option<Answer>, Option<Difference>) {
         self.steps += 1;
         match step {
@@ -149,6 +152,12 @@ impl<B: Broker> Pair<'_, B> {
             Step::ApplyPolicy(wanted) => {
                 let broker = self.broker.apply_policy(&mut self.tables, wanted);
                 let answered = self.reference.apply_policy(wanted);
+                let (answer, difference) = self.compared(broker, answered);
+                return (Some(answer), difference);
+            }
+            Step::WritePolicy(writing) => {
+                let broker = self.broker.write_policy(&mut self.tables, writing);
+                let answered = self.reference.write_policy(writing);
                 let (answer, difference) = self.compared(broker, answered);
                 return (Some(answer), difference);
             }
@@ -277,7 +286,7 @@ pub fn sweep<B: Broker>(broker: &mut B, seed: u64, tally: &mut Tally) -> Option<
     let lengths =
         (0..=LAST_LEVEL).flat_map(|level| (0..=LONGEST).map(move |length| (level, length)));
     for (level, length) in lengths {
-        let mut session = Session::new(broker, Model::fresh(level), Mix::Every, [0; 4]);
+        let mut session = Session::new(broker, Model::fresh(level), Mix::Every, [0; 5]);
         for (filling, call) in attributes::calls(level, length, &mut random) {
             tally.count_attribute(filling, level, length);
             if session.take(tally, Step::Call(call)).is_some() {
@@ -293,9 +302,34 @@ pub fn sweep<B: Broker>(broker: &mut B, seed: u64, tally: &mut Tally) -> Option<
 pub fn sweep_files<B: Broker>(broker: &mut B, tally: &mut Tally) -> Option<Case> {
     let swept = files::sweep();
     for (place, level) in [6, 4, 3, 1, 6].into_iter().enumerate() {
-        let mut session = Session::new(broker, files::worked_tree(level), Mix::Every, [0; 4]);
+        let mut session = Session::new(broker, files::worked_tree(level), Mix::Every, [0; 5]);
         for wanted in swept.iter().skip(place).step_by(5) {
             if session.files(tally, wanted).is_some() {
+                return Some(session.case);
+            }
+        }
+    }
+    None
+}
+
+/// The tables that policy files are written of in a sweep.
+const WRITTEN_TABLES: usize = 300;
+
+/// Writes policy files of the rulesets of random tables, with rooms around their lengths; answers a case in which the sides
+/// differ.
+pub fn sweep_written<B: Broker>(broker: &mut B, seed: u64, tally: &mut Tally) -> Option<Case> {
+    let mut random = Random::new(seed);
+    for _ in 0..WRITTEN_TABLES {
+        let model = trees::tables(&mut random);
+        let asked = (0..4).map(|_| trees::writing(&model, &mut random));
+        let asked: Vec<Writing> = asked.collect();
+        let rooms = asked
+            .iter()
+            .flat_map(|writing| trees::rooms(&model, writing));
+        for writing in rooms.chain(asked.iter().cloned()) {
+            // Each is a case of its own: nothing changes.
+            let mut session = Session::new(broker, model.clone(), Mix::Every, [0; 5]);
+            if session.take(tally, Step::WritePolicy(writing)).is_some() {
                 return Some(session.case);
             }
         }
@@ -308,7 +342,7 @@ pub struct Options {
     pub seed: u64,
     pub calls: u64,
     pub seconds: Option<u64>,
-    /// Whether rulesets of policy files are found and applied between the calls.
+    /// Whether rulesets of policy files are found and applied, and written, between the calls.
     pub policies: bool,
     /// Whether logs change and are replayed between the calls.
     pub logs: bool,
@@ -324,7 +358,8 @@ pub fn compare<B: Broker>(broker: &mut B, options: &Options, tally: &mut Tally) 
         queue_random: Random::new(!options.seed),
         batch_random: Random::new(options.seed.rotate_left(32)),
         policy_random: Random::new(options.seed.rotate_left(16)),
-        log_random: Random::new(options.seed.rotate_left(48)),
+        write_random: Random::new(options.seed.rotate_left(48)),
+        log_random: Random::new(options.seed.rotate_left(8)),
         last_call: tally.calls.saturating_add(options.calls),
         tally,
         deadline,
@@ -334,15 +369,18 @@ pub fn compare<B: Broker>(broker: &mut B, options: &Options, tally: &mut Tally) 
         let mix = run.random.pick(&[Mix::Every, Mix::Tree]);
         let queue = run.queue_random.pick(&[0, 5, 50]);
         let batch = run.batch_random.pick(&[0, 3, 20]);
-        let policy = match options.policies {
-            true => run.policy_random.pick(&[0, 5, 25]),
-            false => 0,
+        let (policy, write) = match options.policies {
+            true => (
+                run.policy_random.pick(&[0, 5, 25]),
+                run.write_random.pick(&[0, 2, 10]),
+            ),
+            false => (0, 0),
         };
         let log = match options.logs {
             true => run.log_random.pick(&[0, 5, 25]),
             false => 0,
         };
-        let mut session = Session::new(broker, start, mix, [queue, batch, policy, log]);
+        let mut session = Session::new(broker, start, mix, [queue, batch, policy, write, log]);
         if session.play(&mut run).is_some() {
             return Some(session.case);
         }
@@ -359,6 +397,8 @@ struct Run<'a> {
     batch_random: Random,
     /// Policy files,
     policy_random: Random,
+    /// Those that are written,
+    write_random: Random,
     /// And logs.
     log_random: Random,
     tally: &'a mut Tally,
@@ -382,6 +422,8 @@ struct Session<'a, B> {
     batch: u64,
     /// The chance of policy files before the next call, in a hundred.
     policy: u64,
+    /// The chance of a policy file that is written before the next call, in a hundred.
+    write: u64,
     /// The chance of another log or of a replay before the next call, in a hundred.
     log: u64,
     /// What happened since the log was empty, if the log is unbroken.
@@ -391,13 +433,14 @@ struct Session<'a, B> {
 }
 
 impl<B: Broker> Session<'_, B> {
-    fn new(broker: &mut B, start: Model, mix: Mix, chances: [u64; 4]) -> Session<'_, B> {
-        let [queue, batch, policy, log] = chances;
+    fn new(broker: &mut B, start: Model, mix: Mix, chances: [u64; 5]) -> Session<'_, B> {
+        let [queue, batch, policy, write, log] = chances;
         Session {
             mix,
             queue,
             batch,
             policy,
+            write,
             log,
             history: (log > 0).then(|| History::new(&start)),
             pair: Pair::new(broker, &start),
@@ -473,6 +516,9 @@ impl<B: Broker> Session<'_, B> {
                 let model = self.pair.reference.model().unwrap_or(&self.case.start);
                 let name = step.name().unwrap_or_default();
                 tally.count_policy(name, wanted, answer, model.level);
+            }
+            (Step::WritePolicy(writing), Some(answer)) => {
+                tally.count_written(writing, answer, self.pair.reference.model().ok());
             }
             (Step::Replay(log), Some(answer)) => tally.count_replay(log, answer),
             _ => {}
@@ -628,6 +674,15 @@ impl<B: Broker> Session<'_, B> {
 
     /// A call, and perhaps a replay, a batch, policy files and things that happen to the queue before it.
     fn random_step(&mut self, run: &mut Run) -> Option<Difference> {
+        if run.write_random.chance(self.write) {
+            let model = self.pair.reference.model();
+            let model = model.unwrap_or(&self.case.start);
+            let writing = trees::writing(model, &mut run.write_random);
+            let difference = self.take(run.tally, Step::WritePolicy(writing));
+            if difference.is_some() {
+                return difference;
+            }
+        }
         if run.log_random.chance(self.log) {
             let difference = self.replay(run);
             if difference.is_some() {
@@ -739,8 +794,8 @@ impl<B: Broker> Session<'_, B> {
             .or_else(|| (0..5).find_map(|_| self.random_step(run)))
     }
 
-    /// Posts a request, takes a turn, asks a batch, finds and applies a ruleset of policy files, replays a log and makes
-    /// every call once, with arguments for tables that show a model.
+    /// Posts a request, takes a turn, asks a batch, finds and applies a ruleset of policy files, writes one, replays a log and
+    /// makes every call once, with arguments for tables that show a model.
     fn every_call(&mut self, run: &mut Run, model: &Model, odds: &[Odd]) -> Option<Difference> {
         let post = Event::Post {
             slot: run.queue_random.below(SLOTS as u64),
@@ -749,7 +804,12 @@ impl<B: Broker> Session<'_, B> {
         let events = [post, Event::Turn].map(Step::Queue).into_iter();
         let batch = Step::Batch(asked::batch(model, &mut run.batch_random));
         let wanted = files::wanted(model, &mut run.policy_random);
-        let policies = [Step::FindPolicy(wanted.clone()), Step::ApplyPolicy(wanted)];
+        let writing = trees::writing(model, &mut run.write_random);
+        let policies = [
+            Step::FindPolicy(wanted.clone()),
+            Step::ApplyPolicy(wanted),
+            Step::WritePolicy(writing),
+        ];
         let replay = Step::Replay(made::replayed(model, &mut run.log_random));
         let calls = every_call(model, &mut run.random).into_iter();
         let calls = policies.into_iter().chain(calls.map(Step::Call));

@@ -1,6 +1,6 @@
 //! Compares the proved core with the model.
 
-use model::compare::{compare, sweep, sweep_files, Options};
+use model::compare::{compare, sweep, sweep_files, sweep_written, Options};
 use model::long_run::long_run;
 use model::proved::Core;
 use model::scenario::scenario;
@@ -14,9 +14,9 @@ const HELP: &str = "\
 usage: model compare [--seed N] [--calls N] [--seconds N] [--long N]
 
 Drives the proved core and the model through attributes of every length, through policy files with
-every byte changed, and through random lists of calls, posts, turns, batches, policy files and
-replays, from random tables, queues and logs, sound and damaged, and compares the reply, every cell
-and every byte of the log after every call.
+every byte changed, through files written of random trees, and through random lists of calls, posts,
+turns, batches, policy files and replays, from random tables, queues and logs, sound and damaged, and
+compares the reply, every cell and every byte of the log after every call.
 Then threads of the same tables are cloned, restricted and ended very often; there the replies are
 compared after every call and the cells after every 100.
 
@@ -82,6 +82,7 @@ fn run(options: &Options, long: u64) -> ExitCode {
     let mut tally = Tally::default();
     let different = sweep(&mut Core, options.seed, &mut tally)
         .or_else(|| sweep_files(&mut Core, &mut tally))
+        .or_else(|| sweep_written(&mut Core, options.seed, &mut tally))
         .or_else(|| compare(&mut Core, options, &mut tally))
         .or_else(|| long_run(&mut Core, options.seed, long, &mut tally));
     let seconds = begin.elapsed().as_secs_f64();

@@ -3,6 +3,7 @@
 use crate::batch::Batch;
 use crate::call::{Broker, Call, Reply};
 use crate::log::{Log, LONGEST_FIELD};
+use crate::policy::write::{cells_of, Writing};
 use crate::policy::Wanted;
 use crate::queue::cells::QueueCells;
 use crate::queue::Request;
@@ -64,6 +65,15 @@ impl Broker for Core {
         let [stock, site] = &wanted.files;
         let tables = &mut cells(tables);
         let number = skeinrabbit_sys::apply_policy(tables, stock, site, &wanted.name, &mut report);
+        Reply { number, report }
+    }
+
+    fn write_policy(&mut self, tables: &mut Tables, writing: &Writing) -> Reply {
+        let mut out = writing.unwritten();
+        let tables = shared_cells(tables);
+        let number =
+            skeinrabbit_sys::write_policy(tables, writing.ruleset, &writing.name, &mut out);
+        let report = cells_of(&out);
         Reply { number, report }
     }
 }
@@ -152,6 +162,18 @@ impl Broker for Both {
             *tables == by_model,
             "core and model leave other cells: {wanted:?}"
         );
+        core
+    }
+
+    fn write_policy(&mut self, tables: &mut Tables, writing: &Writing) -> Reply {
+        let before = tables.clone();
+        let model = Rereading.write_policy(tables, writing);
+        let core = Core.write_policy(tables, writing);
+        assert_eq!(
+            core, model,
+            "core and model answer differently: {writing:?}"
+        );
+        assert!(*tables == before, "cells change: {writing:?}");
         core
     }
 }

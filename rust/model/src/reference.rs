@@ -5,6 +5,7 @@ use crate::call::{Broker, Call, Reply};
 use crate::compare::Step;
 use crate::damage::Poke;
 use crate::log::Log;
+use crate::policy::write::{cells_of, Writing};
 use crate::policy::Wanted;
 use crate::queue::answered;
 use crate::queue::cells::QueueCells;
@@ -55,7 +56,7 @@ impl Reference {
             Step::Damage(pokes) => self.damage(pokes),
             Step::Resize { table, length } => self.resize(*table, *length),
             Step::Queue(event) => drop(self.queue_event(event)),
-            Step::Batch(_) | Step::FindPolicy(_) => {}
+            Step::Batch(_) | Step::FindPolicy(_) | Step::WritePolicy(_) => {}
             Step::ApplyPolicy(wanted) => drop(self.apply_policy(wanted)),
             Step::Log(log) => self.set_log(log),
             Step::Replay(log) => drop(self.replay(log)),
@@ -116,6 +117,15 @@ impl Reference {
             encode_into(model, &mut self.tables);
         }
         (answer, wanted.report_of(report))
+    }
+
+    /// What writing a ruleset's policy file answers, and every byte of the output.
+    pub fn write_policy(&self, writing: &Writing) -> (Answer, Vec<u64>) {
+        let (answer, out) = match &self.model {
+            Ok(model) => model.write_policy(writing),
+            Err(_) => (Err(Refusal::NotSound), writing.unwritten()),
+        };
+        (answer, cells_of(&out))
     }
 
     /// What replay of a log's written bytes answers.

@@ -201,6 +201,15 @@ refusals! {
     RulesetInGroup EBADMSG;
     /// Neither policy file has a ruleset of the name.
     NoSuchRuleset ENOENT;
+    /// The ruleset of a file that is to be written has an empty name.
+    FileWithoutName EINVAL;
+    FileNameTooLong EINVAL;
+    /// A rule on an object that no entry has.
+    NoEntryLeft ENOENT;
+    /// The first path of a rule's object.
+    ChosenPathTooLong ENAMETOOLONG;
+    /// A file that is longer than the room for it.
+    NoRoomForFile ENOSPC;
     /// The log has no room for the field of a change.
     NoLogRoom ENOSPC;
     /// A field of a log has none of the five tags.

@@ -5,6 +5,7 @@ use crate::call::{Call, Reply, UNWRITTEN};
 use crate::compare::{Case, Difference, Step};
 use crate::damage::Poke;
 use crate::log::Log;
+use crate::policy::write::Writing;
 use crate::policy::{File, NotFound, Wanted};
 use crate::queue::event::Event;
 use crate::queue::{Request, IDLE};
@@ -17,6 +18,8 @@ use crate::tables::{encode, Table};
 const MANY: usize = 8;
 /// The different cells that are printed at most.
 const CELLS: usize = 20;
+/// The cells of a report, or the bytes of an output, that are printed at most.
+const REPORTED: usize = 256;
 
 /// The scenario of a case; each call is marked with the model's answer.
 pub fn scenario(case: &Case, difference: &Difference) -> String {
@@ -68,6 +71,7 @@ fn step_lines(step: &Step, reference: &mut Reference) -> Vec<String> {
             };
             policy_lines("apply_policy", wanted, answer, &word)
         }
+        Step::WritePolicy(writing) => vec![writing_line(writing, reference)],
         Step::Log(log) => {
             reference.set_log(log);
             vec![log_line(log)]
@@ -77,6 +81,25 @@ fn step_lines(step: &Step, reference: &mut Reference) -> Vec<String> {
             vec![format!("replay bytes={} => {answer}", text_word(log))]
         }
     }
+}
+
+/// The line of a policy file that is written, with its bytes.
+fn writing_line(writing: &Writing, reference: &Reference) -> String {
+    let (answer, _) = reference.write_policy(writing);
+    let Writing {
+        ruleset,
+        name,
+        room,
+    } = writing;
+    let model = reference.model().ok().filter(|_| answer.is_ok());
+    let file = model.and_then(|model| model.policy_file(*ruleset, name).ok());
+    let bytes = file.map(|file| format!(" bytes={}", text_word(&file)));
+    let name = text_word(name);
+    format!(
+        "write_policy {ruleset} {name} room={room} => {}{}",
+        answer_word(answer),
+        bytes.unwrap_or_default()
+    )
 }
 
 /// The line after which calls have a log; its bytes are zero in a scenario.
@@ -358,9 +381,12 @@ fn reply_text(reply: &Reply) -> String {
     if reply.report.is_empty() {
         return number;
     }
-    let cells = reply.report.iter().map(|cell| match *cell {
+    let cells = reply.report.iter().take(REPORTED).map(|cell| match *cell {
         UNWRITTEN => "unwritten".to_string(),
         cell => cell.to_string(),
     });
-    format!("{number}, report {}", cells.collect::<Vec<_>>().join(" "))
+    let more = reply.report.len().saturating_sub(REPORTED);
+    let more = (more > 0).then(|| format!(" and {more} more"));
+    let cells = cells.collect::<Vec<_>>().join(" ");
+    format!("{number}, report {cells}{}", more.unwrap_or_default())
 }

@@ -7,6 +7,7 @@ use crate::damage::Poke;
 use crate::log::{Log, UNWRITTEN};
 use crate::names::Name;
 use crate::policy::files::places;
+use crate::policy::write::Writing;
 use crate::policy::Wanted;
 use crate::queue::event::Event;
 use crate::queue::Request;
@@ -172,6 +173,7 @@ impl<B: Broker> Shrinker<'_, B> {
                     let simpler = simpler_files(wanted).into_iter();
                     simpler.map(Step::ApplyPolicy).collect()
                 }
+                Step::WritePolicy(writing) => simpler_writings(writing),
                 Step::Log(log) => simpler_logs(log).into_iter().map(Step::Log).collect(),
                 Step::Replay(log) => {
                     let simpler = simpler_fields(log).into_iter();
@@ -313,6 +315,24 @@ fn simpler_files(wanted: &Wanted) -> Vec<Wanted> {
         ..wanted.clone()
     }));
     simpler
+}
+
+/// A policy file to write of a ruleset with a smaller number, under a shorter name or into less room.
+fn simpler_writings(writing: &Writing) -> Vec<Step> {
+    let rulesets = smaller(writing.ruleset).map(|ruleset| Writing {
+        ruleset,
+        ..writing.clone()
+    });
+    let names = smaller(writing.name.len() as u64).map(|length| Writing {
+        name: writing.name[..length as usize].to_vec(),
+        ..writing.clone()
+    });
+    let rooms = smaller(writing.room as u64).map(|room| Writing {
+        room: room as usize,
+        ..writing.clone()
+    });
+    let simpler = rulesets.chain(names).chain(rooms);
+    simpler.map(Step::WritePolicy).collect()
 }
 
 /// A policy file or a log that is empty, without fields or the last byte, or with a shorter value in a field.

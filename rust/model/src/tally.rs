@@ -5,21 +5,23 @@ use crate::batch::{Batch, Sort, ANSWER};
 use crate::call::Call;
 use crate::compare::Step;
 use crate::log::{field, fields};
+use crate::names::LONGEST_PATH;
 use crate::odd::Odd;
 use crate::policy::read::DEEPEST;
-use crate::policy::{File, Wanted};
+use crate::policy::write::Writing;
+use crate::policy::{File, Wanted, LONGEST_FILE};
 use crate::queue::event::Event;
 use crate::queue::IDLE;
 use crate::refusal::{Answer, Refusal};
 use crate::sound::Unsound;
-use crate::state::{Model, LAST_LEVEL};
+use crate::state::{Key, Model, LAST_LEVEL};
 use std::collections::{BTreeMap, BTreeSet};
 use std::fmt;
 
 use Refusal::*;
 
 /// The refusals of each call, after the one for tables that aren't sound.
-const REFUSALS: [(&str, &[Refusal]); 28] = [
+const REFUSALS: [(&str, &[Refusal]); 29] = [
     ("fresh", &[WrongLength, UnknownLevel]),
     (
         "create_ruleset",
@@ -227,6 +229,20 @@ const REFUSALS: [(&str, &[Refusal]); 28] = [
             RulesetFull,
         ],
     ),
+    (
+        "write_policy",
+        &[
+            Disabled,
+            RulesetNotOpen,
+            FileWithoutName,
+            FileNameTooLong,
+            SweepingRule,
+            NoEntryLeft,
+            ChosenPathTooLong,
+            FileTooLong,
+            NoRoomForFile,
+        ],
+    ),
 ];
 
 /// The refusals of a lookup, which an application of a policy file makes too.
@@ -275,12 +291,13 @@ const LATER: [Refusal; 4] = [
 const WITHOUT_SOUNDNESS: [&str; 6] = ["fresh", "component", "post", "turn", "batch", "find_policy"];
 
 /// The names of posts, turns, batches, policy files and replays.
-const EVENTS: [&str; 6] = [
+const EVENTS: [&str; 7] = [
     "post",
     "turn",
     "batch",
     "find_policy",
     "apply_policy",
+    "write_policy",
     "replay",
 ];
 
@@ -326,6 +343,8 @@ pub struct Tally {
     groups: BTreeMap<Groups, u64>,
     /// Policy files with a fault, by the call that met it.
     faults: BTreeMap<Faulty, u64>,
+    /// Policy files that were written or had no room.
+    written: BTreeMap<Written, u64>,
     /// Calls that change the tree by the room that the log had.
     rooms: BTreeMap<(&'static str, Fit), u64>,
     /// Replays by what is said of them.
@@ -448,6 +467,17 @@ impl Tally {
         }
     }
 
+    /// Counts a policy file that is written of sound tables, which show a model, or of others.
+    pub fn count_written(&mut self, writing: &Writing, answer: Answer, model: Option<&Model>) {
+        self.calls += 1;
+        let refusal = answer.err();
+        *self.answers.entry(("write_policy", refusal)).or_default() += 1;
+        let met = model.map(|model| Written::met(writing, answer, model));
+        for written in met.into_iter().flatten() {
+            *self.written.entry(written).or_default() += 1;
+        }
+    }
+
     /// Counts a step on odd tables.
     pub fn count_odd(&mut self, odds: &[Odd], step: &Step) {
         let Some(name) = step.name() else {
@@ -504,11 +534,14 @@ impl Tally {
         let groups = depths.chain([(1, true), (2, true)]);
         let groups = groups.filter(|groups| !self.groups.contains_key(groups));
         let faults = faults().filter(|faulty| !self.faults.contains_key(faulty));
+        let written = Written::ALL.iter();
+        let written = written.filter(|written| !self.written.contains_key(written));
         let rooms = rooms().filter(|room| !self.rooms.contains_key(room));
         let replays = replays().filter(|replayed| !self.replays.contains_key(replayed));
         let lines = refusals.map(|(call, refusal)| format!("{call} {}", refusal_text(refusal)));
         lines
             .chain(faults.map(|faulty| fault_text(&faulty)))
+            .chain(written.map(|written| format!("written file, {written:?}")))
             .chain(
                 groups.map(|groups| format!("ruleset with groups, depth and left out: {groups:?}")),
             )
@@ -619,6 +652,118 @@ impl Lists {
     }
 }
 
+/// What is to be met where policy files are written.
+#[derive(Clone, Copy, PartialEq, Eq, PartialOrd, Ord, Debug)]
+enum Written {
+    /// The room is as long as the file.
+    Exact,
+    /// Bytes behind the file stay.
+    RoomLeft,
+    OneByteShort,
+    /// The longest file that there may be.
+    Longest,
+    /// The longest path.
+    LongestPath,
+    /// A path is chosen although its object has a shorter one.
+    NotTheShortest,
+    /// A path is chosen that is not that of the object's lowest entry.
+    NotTheFirstEntry,
+    /// A path is too long although its object has one that is not.
+    ShorterPathLeft,
+    /// Path rules that stood in another order.
+    PathsMoved,
+    /// Paths whose components would be in another order.
+    NotByComponents,
+    /// Port rules that stood in another order.
+    PortsMoved,
+    /// A port rule that stood before a path rule.
+    PortsBehindPaths,
+}
+
+impl Written {
+    const ALL: [Written; 12] = [
+        Written::Exact,
+        Written::RoomLeft,
+        Written::OneByteShort,
+        Written::Longest,
+        Written::LongestPath,
+        Written::NotTheShortest,
+        Written::NotTheFirstEntry,
+        Written::ShorterPathLeft,
+        Written::PathsMoved,
+        Written::NotByComponents,
+        Written::PortsMoved,
+        Written::PortsBehindPaths,
+    ];
+
+    /// What a file that is asked for meets on sound tables.
+    fn met(writing: &Writing, answer: Answer, model: &Model) -> Vec<Written> {
+        let Some(ruleset) = model.rulesets.get(&writing.ruleset) else {
+            return Vec::new();
+        };
+        let mut met = Vec::new();
+        let mut meets = |written, really| met.extend(Some(written).filter(|_| really));
+        let rules = ruleset.rules.iter();
+        let objects: Vec<Vec<Vec<u8>>> = rules
+            .filter_map(|(key, _)| match key {
+                Key::Object(object) => Some(model.paths_of(object)),
+                Key::Port(_) => None,
+            })
+            .collect();
+        let several = |test: fn(&[Vec<u8>], &Vec<u8>) -> bool| {
+            objects
+                .iter()
+                .any(|paths| paths.iter().min().is_some_and(|first| test(paths, first)))
+        };
+        if answer == Err(ChosenPathTooLong) {
+            let left = several(|paths, first| {
+                first.len() > LONGEST_PATH && paths.iter().any(|path| path.len() <= LONGEST_PATH)
+            });
+            meets(Written::ShorterPathLeft, left);
+        }
+        let length = model.policy_file(writing.ruleset, &writing.name);
+        let length = length.map_or(usize::MAX, |file| file.len());
+        meets(
+            Written::OneByteShort,
+            length.checked_sub(1) == Some(writing.room),
+        );
+        let Ok(order) = answer.and_then(|_| model.in_order(&ruleset.rules)) else {
+            return met;
+        };
+        meets(Written::Exact, length == writing.room);
+        meets(Written::RoomLeft, length < writing.room);
+        meets(Written::Longest, length == LONGEST_FILE);
+        let shortest =
+            |paths: &[Vec<u8>], first: &Vec<u8>| paths.iter().any(|path| path.len() < first.len());
+        meets(Written::NotTheShortest, several(shortest));
+        meets(
+            Written::NotTheFirstEntry,
+            several(|paths, first| paths.first() != Some(first)),
+        );
+        let written: Vec<&Vec<u8>> = order.paths.iter().map(|(path, _)| path).collect();
+        meets(
+            Written::LongestPath,
+            written.iter().any(|path| path.len() == LONGEST_PATH),
+        );
+        let added: Vec<Option<&Vec<u8>>> = objects.iter().map(|paths| paths.iter().min()).collect();
+        meets(Written::PathsMoved, !added.is_sorted());
+        let components = written.iter().map(|path| components_of(path));
+        let components: Vec<Vec<&[u8]>> = components.collect();
+        meets(Written::NotByComponents, !components.is_sorted());
+        let keys: Vec<Key> = ruleset.rules.iter().map(|(key, _)| key).collect();
+        let is_port = |key: &&Key| matches!(key, Key::Port(_));
+        let ports: Vec<&Key> = keys.iter().filter(is_port).collect();
+        meets(Written::PortsMoved, !ports.is_sorted());
+        let before = keys.iter().skip_while(|key| !is_port(key));
+        meets(Written::PortsBehindPaths, before.count() > ports.len());
+        met
+    }
+}
+
+fn components_of(path: &[u8]) -> Vec<&[u8]> {
+    path.split(|byte| *byte == b'/').collect()
+}
+
 /// Each sort of requests with what it may be answered, by tables that are not sound, too; a batch has no log.
 fn asked() -> impl Iterator<Item = (Sort, AskedAnswer)> {
     Sort::ALL.into_iter().flat_map(|sort| {
@@ -720,6 +865,7 @@ impl fmt::Display for Tally {
         self.write_served(f)?;
         self.write_asked(f)?;
         self.write_faults(f)?;
+        self.write_written(f)?;
         self.write_logs(f)?;
         self.write_reports(f)?;
         writeln!(
@@ -781,6 +927,17 @@ impl Tally {
         writeln!(f, "policy files with a fault:")?;
         for (faulty, count) in &self.faults {
             writeln!(f, "    {} {count}", fault_text(faulty))?;
+        }
+        Ok(())
+    }
+
+    fn write_written(&self, f: &mut fmt::Formatter) -> fmt::Result {
+        writeln!(
+            f,
+            "policy files that were to be written, and what they met:"
+        )?;
+        for (written, count) in &self.written {
+            writeln!(f, "    {written:?} {count}")?;
         }
         Ok(())
     }

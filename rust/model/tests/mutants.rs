@@ -2,7 +2,7 @@
 
 use model::batch::{Asked, Batch, Sort, ANSWER, REQUEST};
 use model::call::{Broker, Call, Reply, UNWRITTEN};
-use model::compare::{compare, sweep, sweep_files, Case, Difference, Options, Step};
+use model::compare::{compare, sweep, sweep_files, sweep_written, Case, Difference, Options, Step};
 use model::denial::Denial;
 use model::judge::Move;
 use model::long_run::long_run;
@@ -3015,6 +3015,7 @@ fn the_model_does_not_differ_from_itself_and_meets_everything() {
         logs: true,
     };
     let mut tally = Tally::default();
+    assert_eq!(sweep_written(&mut Rereading, 1, &mut tally), None);
     assert_eq!(compare(&mut Rereading, &options, &mut tally), None);
     assert!(tally.not_met().is_empty(), "{tally}");
 }

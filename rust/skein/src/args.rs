@@ -1,7 +1,7 @@
 //! The command line.
 use crate::least::Traced;
 use crate::picture::Chosen;
-use crate::policy::PolicyCommand;
+use crate::policy::{Export, PolicyCommand};
 use crate::search::Question;
 use crate::words::{one_of, quoted};
 use skeinrabbit::{parse_number, Level};
@@ -12,7 +12,7 @@ pub const COMMANDS: [&str; 9] = [
     "run", "explain", "why", "search", "diff", "least", "demo", "import", "policy",
 ];
 
-const POLICY_COMMANDS: [&str; 4] = ["check", "show", "build", "find"];
+const POLICY_COMMANDS: [&str; 5] = ["check", "show", "build", "find", "export"];
 
 /// An option: what its value is called where it has one, and the commands that take it.
 struct Known {
@@ -368,9 +368,18 @@ fn policy(words: &[OsString]) -> Result<PolicyCommand, String> {
             let words = [stock, site, name].map(Clone::clone);
             return Ok(PolicyCommand::Find(words));
         }
+        (Some("export"), [scenario, ruleset, name, file @ ..]) if file.len() <= 1 => {
+            return Ok(PolicyCommand::Export(Export {
+                scenario: scenario.clone(),
+                ruleset: ruleset.clone(),
+                name: name.clone(),
+                file: file.first().cloned(),
+            }))
+        }
         (Some("check" | "show"), _) => "a FILE",
         (Some("build"), _) => "a TEXT and a FILE",
         (Some("find"), _) => "STOCK, SITE and a NAME",
+        (Some("export"), _) => "a SCENARIO, a RULESET, a NAME and perhaps a FILE",
         _ => {
             let name = name.to_string_lossy();
             return Err(unknown("command policy", &name, &POLICY_COMMANDS));

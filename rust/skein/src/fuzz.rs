@@ -304,6 +304,8 @@ const CALLS: &[(&str, usize)] = &[
         1,
     ),
     ("apply_policy none", 2),
+    ("write_policy", 2),
+    ("write_policy 0 p room=64", 0),
     ("layer_rules", 1),
     ("clone", 1),
     ("end", 1),

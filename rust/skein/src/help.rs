@@ -18,6 +18,7 @@ usage: skein run [--json] [--verbose] FILE
        skein policy show FILE
        skein policy build TEXT FILE
        skein policy find STOCK SITE NAME
+       skein policy export SCENARIO RULESET NAME [FILE]
        skein [COMMAND] --help | --version
 ";
 
@@ -160,8 +161,10 @@ Commands
            which ones a FILE has, or at which byte it is damaged and how; show
            prints it as text, one field to a line; build makes a FILE of such a
            TEXT; find says which of two files a NAME means, and prints its
-           ruleset. A file whose name ends in .txt is text and is built first;
-           none is an empty one. docs/POLICY.md has both forms.
+           ruleset; export plays a SCENARIO and writes the RULESET that it
+           leaves open, a label or a number, into a FILE under a NAME, or prints
+           it as text. A file whose name ends in .txt is text and is built
+           first; none is an empty one. docs/POLICY.md has both forms.
 
 Options
   skein COMMAND --help says more of explain, why, search, diff and least.
@@ -177,7 +180,8 @@ Options
 
 Format (in full: docs/SCENARIO.md)
   [repeat N] CALL ARGUMENT .. [-> LABEL] [=> ANSWER [layer=N] [rights=RIGHTS]
-  [entries_read=N] [start=N] [length=N] [answer=ANSWER] [file=FILE] [place=N]]
+  [entries_read=N] [start=N] [length=N] [answer=ANSWER] [file=FILE] [place=N]
+  [bytes=TEXT]]
   # a comment, to the end of the line
 
   repeat N makes the call N times, from 1 to 100,000, each with that answer.
@@ -194,6 +198,7 @@ Format (in full: docs/SCENARIO.md)
   call behind it would answer up to and with its verdict; it makes nothing.
   find_policy and apply_policy say with file= (stock, site or none), place= and
   length= where the ruleset stands, or which file is damaged and where.
+  write_policy answers how many bytes it wrote, and says which with bytes=.
 
   Tables start fresh at level 6, and so does the queue, which fresh leaves
   alone. A number is decimal or hexadecimal (0x1f). An entry, ruleset or thread
@@ -212,6 +217,7 @@ Format (in full: docs/SCENARIO.md)
     add_port_rule RULESET PORT RIGHTS [FLAGS]
     find_policy STOCK SITE NAME
     apply_policy STOCK SITE NAME
+    write_policy RULESET NAME [room=N]
     restrict THREAD RULESET [FLAGS]
     layer_rules LAYER
     clone THREAD
@@ -279,7 +285,8 @@ Exit codes
   0   every answer is as its line expects; what was asked has the answer no:
       nothing found, no difference
   1   some answer differs: a refusal on a line without => among them; or
-      something is found, or different; neither file of policy find has the name
+      something is found, or different; neither file of policy find has the
+      name, or policy export is refused
   2   bad input: FILE:LINE: what was found; what was expected; of a policy file
       FILE: byte PLACE: its bytes there, and the same
   3   FILE cannot be read, or the output cannot be written

@@ -62,6 +62,13 @@ pub fn not_drawn(name: &str) -> String {
     format!("skein: {}: {why}; {remedy}\n", escaped(name))
 }
 
+/// What `policy export` says where an answer differs.
+pub fn not_written(name: &str) -> String {
+    let why = "nothing is written, as not every call answered as its line says";
+    let remedy = "`=> any` lets a call answer anything";
+    format!("skein: {}: {why}; {remedy}\n", escaped(name))
+}
+
 /// What is in the way of an import, the first ones where there are many.
 pub fn no_room(name: &str, lines: &[String]) -> String {
     const MOST: usize = 20;

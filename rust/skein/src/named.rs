@@ -1,8 +1,8 @@
-//! What a word of the command line stands for in a play: a thread or an entry.
+//! What a word of the command line stands for in a play: a thread, a ruleset or an entry.
 use crate::play::Player;
 use crate::scenario::{Space, Text};
 use crate::words::{one_of, quoted};
-use skeinrabbit::{parse_number, Entry, Thread};
+use skeinrabbit::{parse_number, Entry, Ruleset, Thread};
 
 /// The live threads of these words, each a label or a number, in the order of their numbers.
 pub fn threads(player: &Player, words: &[String]) -> Result<Vec<Thread>, String> {
@@ -45,6 +45,19 @@ pub fn entries(player: &Player, words: &[String]) -> Result<Vec<Entry>, String> 
     found.collect()
 }
 
+/// The ruleset of a word: any number, or the label of one that is open.
+pub fn ruleset(player: &Player, word: &str) -> Result<Ruleset, String> {
+    let number = number(player, Space::Ruleset, word).map(Ruleset::new);
+    number.ok_or_else(|| {
+        let open = player.tables.open_rulesets();
+        none(
+            word,
+            "ruleset",
+            open.map(|row| ruleset_name(player, row.ruleset)),
+        )
+    })
+}
+
 /// The number that a word stands for in a space.
 fn number(player: &Player, space: Space, word: &str) -> Option<u64> {
     parse_number(word).or_else(|| player.names.number(space, word))
@@ -61,6 +74,12 @@ fn none(word: &str, what: &str, known: impl Iterator<Item = String>) -> String {
 pub fn thread_name(player: &Player, thread: Thread) -> String {
     let name = player.names.name(Space::Thread, thread.number());
     name.map_or_else(|| thread.to_string(), str::to_owned)
+}
+
+/// A ruleset's label, or else its number.
+fn ruleset_name(player: &Player, ruleset: Ruleset) -> String {
+    let name = player.names.name(Space::Ruleset, ruleset.number());
+    name.map_or_else(|| ruleset.to_string(), str::to_owned)
 }
 
 /// An entry's path as a scenario writes it.

@@ -45,18 +45,24 @@ pub struct Played<'s> {
     pub report: Option<Report>,
     /// The rules that `layer_rules` gave in it.
     pub rules: Vec<Rule>,
-    /// The part of its path that `component` gave in it.
+    /// The part of its path that `component` gave in it, the policy file that `write_policy` wrote, or the log that `written` read.
     pub part: Vec<u8>,
-    /// What is wrong with policy files, in words.
+    /// What is wrong with policy files, in words, or why none is written.
     pub fault: Option<String>,
-    /// What stands in the log that was read, in words.
-    pub fields: Vec<String>,
 }
 
 impl Played<'_> {
     /// Whether the answer is another than the line expects; a line that says nothing expects a success.
     pub fn differs(&self) -> bool {
-        !self.statement.allows(self.answer, self.report)
+        let Played {
+            statement,
+            round,
+            part,
+            ..
+        } = self;
+        let written = matches!(self.answer, Answer::Written(_) | Answer::Count(_));
+        !statement.allows(self.answer, self.report)
+            || written && !statement.allows_bytes(part, *round)
     }
 }
 
@@ -218,18 +224,25 @@ impl Player {
         let mut rules = Vec::new();
         let mut part = Vec::new();
         let mut fault = None;
-        let mut fields = Vec::new();
         let (answer, report) = match &statement.call {
             Call::Fresh { level } => (self.fresh(*level), None),
             Call::Ruleset(call) => (self.ruleset_call(call)?, None),
             Call::Policy(call) => self.policy_call(call, &mut fault)?,
+            Call::WritePolicy {
+                ruleset,
+                name,
+                room,
+            } => {
+                let written = self.write_policy(ruleset, name, *room)?;
+                (said_of_file(written, &mut part, &mut fault), None)
+            }
             Call::LayerRules { layer } => (self.layer_rules(*layer, &mut rules), None),
             Call::Thread { thread, call } => self.thread_call(thread, call)?,
             Call::Tree { thread, call } => self.tree_call(thread, call)?,
             Call::Lookup { path } => (self.lookup(path), None),
             Call::Component { path, place } => self.component(path, *place, &mut part),
             Call::Queue(call) => self.queue_call(call)?,
-            Call::Log(call) => (self.log_call(call, &mut fields)?, None),
+            Call::Log(call) => (self.log_call(call, &mut part)?, None),
             Call::Ask { thread, call } => self.ask(thread, call)?,
             Call::Poke { poked, writes } => (self.poke(*poked, writes), None),
             Call::PokeName { first, count, name } => (self.poke_name(*first, *count, name), None),
@@ -248,7 +261,6 @@ impl Player {
             rules,
             part,
             fault,
-            fields,
         })
     }
 
@@ -328,6 +340,26 @@ impl Player {
             Answer::Refused(refusal.errno())
         });
         Ok((answer, Some(report)))
+    }
+
+    /// The policy file of a ruleset, or why none is written.
+    fn write_policy(
+        &self,
+        ruleset: &Operand,
+        name: &Text,
+        room: usize,
+    ) -> Result<Result<Vec<u8>, (Errno, String)>, Bad> {
+        let ruleset = self.ruleset(ruleset)?;
+        let mut file = vec![0; room];
+        let length = self
+            .tables
+            .write_policy(ruleset, name.bytes(self.round), &mut file);
+        Ok(length
+            .map(|length| {
+                file.truncate(length);
+                file
+            })
+            .map_err(|errno| (errno, policy::unwritten(&self.tables, ruleset, errno))))
     }
 
     /// The bytes of a policy file.
@@ -427,7 +459,7 @@ impl Player {
         }
     }
 
-    fn log_call(&mut self, call: &LogCall, fields: &mut Vec<String>) -> Result<Answer, Bad> {
+    fn log_call(&mut self, call: &LogCall, part: &mut Vec<u8>) -> Result<Answer, Bad> {
         match call {
             LogCall::Start { room, used } => {
                 let (tables, restricted) = (self.tables.clone(), self.restricted.clone());
@@ -437,7 +469,7 @@ impl Player {
             LogCall::Cut { length } => self.kept()?.log.cut(*length),
             LogCall::Read => {
                 let log = &self.kept()?.log;
-                *fields = log::in_words(log.written());
+                part.extend_from_slice(log.written());
                 return Ok(Answer::Count(log.used()));
             }
             LogCall::Restart => {
@@ -645,6 +677,25 @@ impl Player {
             let found = format!("the {noun} {}, whose call was refused", quoted(name));
             Bad::new(found, "a label that a successful call bound")
         })
+    }
+}
+
+/// The answer of a call that writes a policy file, with the file or why there is none.
+fn said_of_file(
+    written: Result<Vec<u8>, (Errno, String)>,
+    file: &mut Vec<u8>,
+    fault: &mut Option<String>,
+) -> Answer {
+    match written {
+        Ok(bytes) => {
+            let answer = Answer::Written(count(bytes.len()));
+            *file = bytes;
+            answer
+        }
+        Err((errno, why)) => {
+            *fault = Some(why);
+            Answer::Refused(errno)
+        }
     }
 }
 

@@ -1,10 +1,12 @@
 //! What `skein run` shows: each call with its answer.
 use crate::json::Json;
 use crate::lines::{broken, Row};
+use crate::log::in_words;
 use crate::paint::Paint;
 use crate::play::{Play, Played};
+use crate::policy::show;
 use crate::scenario::{
-    written, Answer, Call, Mask, PolicyReport, Report, RulesetCall, SlotReport, Space,
+    written, Answer, Call, LogCall, Mask, PolicyReport, Report, RulesetCall, SlotReport, Space,
 };
 use crate::words::{cut, shown};
 use skeinrabbit::{Errno, Layer, Rights, Rule, SlotState};
@@ -62,8 +64,14 @@ pub fn counted(count: usize, noun: &str) -> String {
 
 /// What a line says of an answer that it does not allow.
 pub fn verdict(played: &Played) -> String {
-    let verdict = match played.statement.expected {
-        Some(expected) => format!("expected {expected}"),
+    let verdict = match &played.statement.expected {
+        Some(expected) => {
+            let expected = expected.to_string();
+            format!(
+                "expected {}",
+                each_word(&expected, |word| cut(word, WIDEST_PART))
+            )
+        }
         None => "must succeed".to_owned(),
     };
     match played.statement.rounds {
@@ -141,7 +149,7 @@ fn slot_lines(played: &Played) -> Vec<String> {
 
 /// How far a line that goes on is indented.
 const INDENT: usize = 4;
-/// The widest that a part of a path is shown.
+/// The widest that a part of a path, a word of a policy file or one of what is expected is shown.
 const WIDEST_PART: usize = 40;
 /// The widest column of answers. Wider ones have a line of their own.
 const WIDEST_ANSWER: usize = 24;
@@ -262,9 +270,31 @@ fn below(played: &Played) -> Vec<String> {
     };
     let rules = played.rules.iter().map(rule_text);
     let parts = part(played).into_iter().chain(policy_part(played));
-    let fields = played.fields.iter().cloned();
-    let said = why.into_iter().chain(rules).chain(parts);
-    said.chain(fields).collect()
+    let parts = parts.chain(written_file(played));
+    let parts = parts.chain(log_fields(played));
+    why.into_iter().chain(rules).chain(parts).collect()
+}
+
+/// The fields of a log that was read, in words.
+fn log_fields(played: &Played) -> Vec<String> {
+    match played.statement.call {
+        Call::Log(LogCall::Read) => in_words(&played.part),
+        _ => Vec::new(),
+    }
+}
+
+/// The policy file that was written, as text.
+fn written_file(played: &Played) -> Vec<String> {
+    match played.answer {
+        Answer::Written(_) => {
+            let text = show(&played.part);
+            let lines = text.lines();
+            lines
+                .map(|line| each_word(line, |word| cut(word, WIDEST_PART)))
+                .collect()
+        }
+        _ => Vec::new(),
+    }
 }
 
 /// The part of a policy file that a name means, in words.
@@ -290,11 +320,16 @@ fn part(played: &Played) -> Option<String> {
 
 /// The call and its arguments, with what is very long cut.
 fn call_text(played: &Played, widest: usize) -> String {
-    let pieces = played.statement.text.split_inclusive([' ', '+']);
+    each_word(&played.statement.text, |word| shown(word, widest))
+}
+
+/// A text with each of its words, and of joined rights each right, as it is to be shown.
+fn each_word(text: &str, shown: impl Fn(&str) -> String) -> String {
+    let pieces = text.split_inclusive([' ', '+']);
     let pieces = pieces.map(|piece| {
         let word = piece.trim_end_matches([' ', '+']);
         let end = piece.strip_prefix(word).unwrap_or_default();
-        format!("{}{end}", shown(word, widest))
+        format!("{}{end}", shown(word))
     });
     pieces.collect()
 }
@@ -333,7 +368,10 @@ pub fn call_json(played: &Played) -> Json {
     let statement = played.statement;
     let (number, errno) = match played.answer {
         Answer::Done => (Some(0), None),
-        Answer::New(number) | Answer::Found(number) | Answer::Count(number) => (Some(number), None),
+        Answer::New(number)
+        | Answer::Found(number)
+        | Answer::Written(number)
+        | Answer::Count(number) => (Some(number), None),
         Answer::Served(slot) => (Some(slot.number()), None),
         Answer::Idle | Answer::State(_) => (None, None),
         Answer::Refused(errno) => (None, Some(errno)),
@@ -365,7 +403,7 @@ pub fn call_json(played: &Played) -> Json {
         ("bound", Json::option(made, bound_json)),
         (
             "expected",
-            Json::option(statement.expected, |expected| {
+            Json::option(statement.expected.as_ref(), |expected| {
                 Json::text(expected.to_string())
             }),
         ),
@@ -387,8 +425,14 @@ pub fn call_json(played: &Played) -> Json {
                 policy_json(policy, played.fault.as_deref())
             }),
         ),
-        ("log", Json::list(&played.fields, Json::text)),
+        ("written", Json::option(written_bytes(played), Json::text)),
+        ("log", Json::list(log_fields(played), Json::text)),
     ])
+}
+
+/// The bytes of the policy file that was written, with the escapes of a scenario.
+fn written_bytes(played: &Played) -> Option<String> {
+    matches!(played.answer, Answer::Written(_)).then(|| written(&played.part))
 }
 
 /// What is said of policy files: the file, the ruleset's part of it or the place of its fault, and what is wrong.

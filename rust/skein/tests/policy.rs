@@ -568,30 +568,32 @@ fn a_damaged_file_has_no_differences() {
     }
 }
 
-/// The blocks of docs/POLICY.md: text or bytes of a file, and commands that are run on the last one above.
+/// The blocks of docs/POLICY.md: text or bytes of a file, or a scenario, and commands that are run on the last one above.
 #[test]
 fn every_example_of_the_document_is_run() {
     let path = Path::new(env!("CARGO_MANIFEST_DIR")).join("../../docs/POLICY.md");
     let document = std::fs::read_to_string(path).expect("the document");
-    let (mut file, mut compared) = (Vec::new(), 0);
+    let (mut file, mut scenario, mut compared) = (Vec::new(), Vec::new(), 0);
     let mut blocks = document.split("\n```");
     while let (Some(_), Some(block)) = (blocks.next(), blocks.next()) {
         let (language, text) = block.split_once('\n').expect("a block of lines");
         match language {
             "policy" => file = text.as_bytes().to_vec(),
+            "skein" => scenario = text.as_bytes().to_vec(),
             "bytes" => {
                 let words = text.split_whitespace();
                 let bytes = words.map(|word| u8::from_str_radix(word, 16).expect("a byte"));
                 file = bytes.collect();
             }
             "console" => {
-                runs(text, &file);
+                let exports = text.starts_with("$ skein policy export ");
+                runs(text, if exports { &scenario } else { &file });
                 compared += 1;
             }
             other => panic!("`{other}` is no kind of example"),
         }
     }
-    assert_eq!(compared, 5);
+    assert_eq!(compared, 6);
 }
 
 /// Runs a command on a file, which is its third word, and compares what it writes.

@@ -357,6 +357,20 @@ call! {
     )
 }
 
+call! {
+    /// Writes the policy file of an open ruleset under a name; answers its length. Bytes past it stay, and all of them where the
+    /// call is refused.
+    write_policy(tables: SharedCells, ruleset: u64, name: &[u8], out: &mut [u8]),
+    skein_write_policy[const const const const const const const]
+    (
+        ruleset => u64,
+        name.as_ptr() => *const u8,
+        name.len() => usize,
+        out.as_mut_ptr() => *mut u8,
+        out.len() => usize
+    )
+}
+
 /// Puts an access request into a slot of a queue, where it waits for a turn.
 pub fn post(queue: &mut QueueCells, slot: u64, thread: u64, entry: u64, rights: u64) -> u64 {
     extern "C" {

@@ -70,7 +70,7 @@ fn proved() -> Changes {
 #[test]
 fn tables_are_writable_exactly_where_the_proved_export_writes() {
     let (declared, proved) = (declared(), proved());
-    assert_eq!(declared.len(), 25);
+    assert_eq!(declared.len(), 26);
     for (name, tables) in declared {
         assert_eq!(proved.get(name), Some(&tables), "{name}");
     }
@@ -190,4 +190,16 @@ fn only_the_report_about_policy_files_is_writable() {
         "report.as_mut_ptr() => *mut u64,",
     ];
     declares("skein_apply_policy[", "\n}", &parameters);
+}
+
+#[test]
+fn only_the_room_for_a_policy_file_is_writable() {
+    let kinds = ["u64,", "&[u8],", "&mut [u8],"];
+    assert_eq!(proved_kinds("write_policy(", 7), kinds);
+    let parameters = [
+        "ruleset => u64,",
+        "name.as_ptr() => *const u8,",
+        "out.as_mut_ptr() => *mut u8,",
+    ];
+    declares("skein_write_policy[", "\n}", &parameters);
 }

@@ -1,7 +1,7 @@
 //! The calls that change nothing, on tables in memory that cannot be written: a write would end the program.
 use skeinrabbit_sys::{
     abstract_socket, access, batch, component, find_policy, layer_rules, lookup, port, post,
-    signal, turn, QueueCells, SharedCells, NAMES_SIZE, SIZES,
+    signal, turn, write_policy, QueueCells, SharedCells, NAMES_SIZE, SIZES,
 };
 
 const fn cells<const N: usize>(first: [u64; 4]) -> [u64; N] {
@@ -39,6 +39,7 @@ const EIO: u64 = 5u64.wrapping_neg();
 const EBADF: u64 = 9u64.wrapping_neg();
 const EAGAIN: u64 = 11u64.wrapping_neg();
 const EINVAL: u64 = 22u64.wrapping_neg();
+const ENOSPC: u64 = 28u64.wrapping_neg();
 
 #[test]
 fn requests_write_no_cell() {
@@ -280,4 +281,34 @@ fn policy_files_are_only_read() {
         EBADMSG
     );
     assert_eq!(report, [1, 4, 0, 7]);
+}
+
+/// A ruleset that handles READ_FILE and has no rule.
+static OPEN: [u64; SIZES[2]] = cells([4, 0, 0, 0]);
+
+#[test]
+fn a_policy_file_is_all_that_is_written() {
+    let tables = SharedCells {
+        rulesets: &OPEN,
+        ..FRESH
+    };
+    let mut file = FILE;
+    file[7] = 4;
+    let mut out = [7; 40];
+    assert_eq!(write_policy(tables, 0, b"p", &mut out[..30]), ENOSPC);
+    assert_eq!(write_policy(tables, 0, b"", &mut out), EINVAL);
+    assert_eq!(write_policy(tables, 1, b"", &mut out), EBADF);
+    assert_eq!(write_policy(tables, 0, b"p", &mut []), ENOSPC);
+    let short = SharedCells {
+        pool: &[],
+        ..tables
+    };
+    assert_eq!(write_policy(short, 0, b"p", &mut out), EIO);
+    assert_eq!(out, [7; 40]);
+    assert_eq!(write_policy(tables, 0, b"p", &mut out[..31]), 31);
+    assert_eq!(out[..31], file);
+    assert_eq!(out[31..], [7; 9]);
+    let mut out = [7; 40];
+    assert_eq!(write_policy(tables, 0, b"p", &mut out), 31);
+    assert_eq!((&out[..31], &out[31..]), (&file[..], &[7; 9][..]));
 }

@@ -150,7 +150,7 @@
 //!
 //! Rulesets may stand in files, each under a name: a stock file, and a site file whose rulesets go first. [`find_policy`] gives the part
 //! that a name means, and [`Tables::apply_policy`] opens a ruleset as it says. A file that is damaged anywhere is refused with the
-//! place. `skein policy` makes such files of text.
+//! place. [`Tables::write_policy`] writes an open ruleset as such a file. `skein policy` makes files of text and of rulesets.
 //!
 //! ```
 //! use skeinrabbit::{find_policy, Attribute, Errno, Level, PolicyFile, Scope, Tables, Thread};
@@ -165,6 +165,7 @@
 //! tables.set_no_new_privs(worker)?;
 //! tables.restrict(worker, ruleset, 0)?;
 //! assert_eq!(tables.signal(worker, Thread::MAIN), Err(Errno::EPERM));
+//! assert_eq!(tables.policy_file(ruleset, "worker"), Ok(site));
 //! # Ok::<(), Errno>(())
 //! ```
 //!

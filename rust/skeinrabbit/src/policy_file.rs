@@ -1,10 +1,12 @@
-//! Policy files: a ruleset by its name in two of them, found and applied.
+//! Policy files: a ruleset by its name in two of them, found and applied, and written into one.
 use crate::errno::Errno;
 use crate::numbers::Ruleset;
 use crate::tables::Tables;
+use alloc::vec;
+use alloc::vec::Vec;
 use core::fmt;
 use skeinrabbit_sys as sys;
-use sys::layout::POLICY_REPORT_WIDTH;
+use sys::layout::{MAX_POLICY, POLICY_REPORT_WIDTH};
 
 /// Which of the two policy files.
 #[derive(Clone, Copy, Debug, PartialEq, Eq, PartialOrd, Ord, Hash)]
@@ -195,5 +197,74 @@ impl Tables {
             let of_files = of_files.filter(|refusal| refusal.errno() == errno);
             of_files.unwrap_or(PolicyRefusal::Call(errno))
         })
+    }
+
+    /// Writes an open ruleset as a policy file of this one ruleset under a name, and answers how many bytes it has. Behind them `out`
+    /// stays as it is, and with a refusal all of it.
+    ///
+    /// After the name and the masks come the path rules by their paths in byte order, then the port rules by rising ports; no groups,
+    /// and each rule with all its rights. A rule is about an object; where that has several paths, the first in byte order is written.
+    /// As long as the tree stays as it is, [`Tables::apply_policy`] opens a ruleset with the same masks and the same rights for each
+    /// object and port, and two rulesets that differ in these have different files under the same name.
+    ///
+    /// Refusals, in order: tables not sound, EIO; level 0, EOPNOTSUPP; ruleset not open, EBADF; name not of 1 to 32 bytes, EINVAL; a
+    /// rule on the root that [`Tables::add_path_rule`] refuses so, EPERM (only cells that something else wrote have one); a rule whose
+    /// object has no entry left, ENOENT; a rule's path longer than 4,095 bytes, ENAMETOOLONG, also if its object has a shorter one; a
+    /// file longer than 32,768 bytes, E2BIG; a file longer than `out`, ENOSPC. Each is tested for all rules before the next.
+    ///
+    /// ```
+    /// # use skeinrabbit::*;
+    /// let mut tables = Tables::new(Level::LATEST)?;
+    /// let cal = tables.create(Thread::MAIN, Entry::ROOT, Kind::DIRECTORY, "cal")?;
+    /// let masks = Attribute { fs: AccessFs::READ_FILE, ..Attribute::default() };
+    /// let ruleset = tables.create_ruleset(&masks.to_bytes(), 0)?;
+    /// tables.add_path_rule(ruleset, cal, AccessFs::READ_FILE, 0)?;
+    ///
+    /// let mut out = [0xff; 64];
+    /// let length = tables.write_policy(ruleset, "p", &mut out)?;
+    /// let mut file = vec![1, 1, 0, b'p', 2, 24, 0];
+    /// file.extend(masks.to_bytes());
+    /// file.extend([3, 12, 0, 4, 0, 0, 0, 0, 0, 0, 0]);
+    /// file.extend(b"/cal");
+    /// assert_eq!(out[..length], file);
+    /// assert_eq!(out[length..], [0xff; 18]);
+    /// assert_eq!(tables.write_policy(ruleset, "p", &mut out[..45]), Err(Errno::ENOSPC));
+    ///
+    /// let again = tables.apply_policy(&out[..length], &[], "p")?;
+    /// let rules = |ruleset| tables.open_ruleset(ruleset).map(|row| row.rules.iter().collect::<Vec<_>>());
+    /// assert_eq!(rules(again), rules(ruleset));
+    ///
+    /// tables.remove(Thread::MAIN, cal)?;
+    /// assert_eq!(tables.write_policy(ruleset, "p", &mut out), Err(Errno::ENOENT));
+    /// # Ok::<(), Errno>(())
+    /// ```
+    pub fn write_policy(
+        &self,
+        ruleset: Ruleset,
+        name: impl AsRef<[u8]>,
+        out: &mut [u8],
+    ) -> Result<usize, Errno> {
+        let raw = sys::write_policy(self.shared(), ruleset.number(), name.as_ref(), out);
+        // The length is that of a file in memory.
+        Errno::answer(raw).map(|length| usize::try_from(length).unwrap_or(usize::MAX))
+    }
+
+    /// The file that [`Tables::write_policy`] writes, with room for any.
+    ///
+    /// ```
+    /// # use skeinrabbit::*;
+    /// let mut tables = Tables::new(Level::LATEST)?;
+    /// let masks = Attribute { scope: Scope::SIGNAL, ..Attribute::default() };
+    /// let ruleset = tables.create_ruleset(&masks.to_bytes(), 0)?;
+    /// let file = tables.policy_file(ruleset, "worker")?;
+    /// assert_eq!(find_policy(&file, &[], "worker").map(|part| part.bytes.len()), Ok(36));
+    /// assert_eq!(tables.policy_file(ruleset, ""), Err(Errno::EINVAL));
+    /// # Ok::<(), Errno>(())
+    /// ```
+    pub fn policy_file(&self, ruleset: Ruleset, name: impl AsRef<[u8]>) -> Result<Vec<u8>, Errno> {
+        let mut file = vec![0; MAX_POLICY];
+        let length = self.write_policy(ruleset, name, &mut file)?;
+        file.truncate(length);
+        Ok(file)
     }
 }

@@ -6,3 +6,4 @@ pub mod files;
 pub mod own;
 pub mod soundness;
 pub mod verdict;
+pub mod written;

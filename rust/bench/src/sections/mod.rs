@@ -6,6 +6,7 @@ mod files;
 mod parts;
 mod soundness;
 mod verdicts;
+mod written;
 
 use crate::inputs::{self, Refer};
 use crate::measure::Effort;
@@ -16,7 +17,7 @@ pub struct Section {
     pub run: fn(Effort),
 }
 
-pub const SECTIONS: [Section; 6] = [
+pub const SECTIONS: [Section; 7] = [
     Section {
         name: "parts",
         run: parts::run,
@@ -36,6 +37,10 @@ pub const SECTIONS: [Section; 6] = [
     Section {
         name: "files",
         run: files::run,
+    },
+    Section {
+        name: "written",
+        run: written::run,
     },
     Section {
         name: "soundness",

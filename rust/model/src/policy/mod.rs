@@ -1,9 +1,11 @@
 //! Requests W4 and W7: policy files. What a name means in two of them, and what applying it does.
 //!
-//! [`read`] reads a file whole; [`files`] makes random and damaged ones.
+//! [`read`] reads a file whole, and [`write`](mod@write) writes one; [`files`] makes random and damaged ones, [`trees`] tables to write them of.
 
 pub mod files;
 pub mod read;
+pub mod trees;
+pub mod write;
 
 use crate::refusal::{Answer, Refusal};
 use crate::state::Model;

@@ -1,7 +1,7 @@
 //! `skein policy`: what is done with policy files.
 use super::source::{bytes, text, Unread};
 use super::text::{build, show};
-use super::{fault, fields, read, Field, GROUP, LONGEST_FILE, MASKS, RULESET};
+use super::{export, fault, fields, read, Export, Field, GROUP, LONGEST_FILE, MASKS, RULESET};
 use crate::messages::bad_lines;
 use crate::scenario::{written, Bad};
 use crate::transcript::counted;
@@ -22,6 +22,7 @@ pub enum PolicyCommand {
     Build(OsString, OsString),
     /// Stock, site and the name of a ruleset.
     Find([OsString; 3]),
+    Export(Export),
 }
 
 /// Stands for standard input.
@@ -35,6 +36,9 @@ pub fn perform(command: &PolicyCommand) -> Outcome {
         PolicyCommand::Show(file) => fine(file).map(|bytes| show(&bytes)),
         PolicyCommand::Build(text, file) => build_file(text, file),
         PolicyCommand::Find([stock, site, name]) => find(stock, site, name),
+        PolicyCommand::Export(wanted) => Err(crate::with_play(&wanted.scenario, |file, play| {
+            export(file, &play, wanted).unwrap_or_else(|refused| refused)
+        })),
     };
     done.map_or_else(
         |refused| refused,

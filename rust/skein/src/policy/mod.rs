@@ -1,14 +1,17 @@
-//! Policy files: read, checked, shown as text and built from it.
+//! Policy files: read, checked, shown as text and built from it, and written of a ruleset.
 mod command;
+mod export;
 mod fault;
 mod meaning;
 mod source;
 mod text;
 
 pub use command::{fine, perform, PolicyCommand};
+pub use export::{export, unwritten, Export};
 pub use fault::fault;
 pub use meaning::{rulesets, Ruleset};
 pub use source::{read, Unread};
+pub use text::show;
 
 use skeinrabbit::{Attribute, PortRights, Rights, Scopes};
 

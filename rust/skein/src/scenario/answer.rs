@@ -1,5 +1,7 @@
 //! Answers, and what a line says the answer must be.
+use super::forms::MOST_OF_FILE;
 use super::report::{Report, ReportWords, Sort};
+use super::text::{written, Text};
 use super::Bad;
 use crate::words::one_of;
 use skeinrabbit::{parse_number, Errno, Slot, SlotState};
@@ -14,6 +16,8 @@ pub enum Answer {
     New(u64),
     /// Success, with the number of the entry that was found.
     Found(u64),
+    /// Success, with the number of bytes that were written.
+    Written(u64),
     /// Success, with a number of bytes.
     Count(u64),
     /// The slot that a turn served.
@@ -30,7 +34,9 @@ impl fmt::Display for Answer {
         match self {
             Answer::Done => f.pad("0"),
             Answer::New(number) => f.pad(&format!("new {number}")),
-            Answer::Found(number) | Answer::Count(number) => number.fmt(f),
+            Answer::Found(number) | Answer::Written(number) | Answer::Count(number) => {
+                number.fmt(f)
+            }
             Answer::Served(slot) => slot.fmt(f),
             Answer::Idle => f.pad(IDLE),
             Answer::State(state) => state.fmt(f),
@@ -45,31 +51,60 @@ const IDLE: &str = "idle";
 const STATES: [SlotState; 3] = [SlotState::Empty, SlotState::Waiting, SlotState::Answered];
 
 /// What a call must answer and report.
-#[derive(Clone, Copy, Debug, PartialEq, Eq)]
+#[derive(Clone, Debug, PartialEq, Eq)]
 pub struct Expected {
     pub answer: ExpectedAnswer,
     pub report: ReportWords,
+    /// The bytes of the policy file that it must write, or of the log that it must find.
+    pub bytes: Option<Text>,
 }
 
 impl Expected {
     /// Reads the words after `=>`, of a call with a report of a sort or with none.
     pub fn parse(words: &[&str], sort: Option<Sort>) -> Result<Expected, Bad> {
         let (answer, more) = ExpectedAnswer::parse(words)?;
+        let (bytes, more) = match (sort, more) {
+            (Some(Sort::Written), [word, more @ ..]) => (file_bytes(word)?, more),
+            _ => (None, more),
+        };
         let report = ReportWords::parse(more, sort)?;
-        if answer == ExpectedAnswer::Any && !report.is_empty() {
-            return Err(Bad::new(format!("`any{report}`"), "`any` alone"));
+        let expected = Expected {
+            answer,
+            report,
+            bytes,
+        };
+        if answer == ExpectedAnswer::Any && (!report.is_empty() || expected.bytes.is_some()) {
+            return Err(Bad::new(format!("`{expected}`"), "`any` alone"));
         }
-        Ok(Expected { answer, report })
+        Ok(expected)
     }
 
-    pub fn is_met_by(self, answer: Answer, report: Option<Report>) -> bool {
+    pub fn is_met_by(&self, answer: Answer, report: Option<Report>) -> bool {
         self.answer.is_met_by(answer) && self.report.is_met_by(report)
     }
+
+    /// Whether what was written in a round is as expected, if something is.
+    pub fn is_written(&self, bytes: &[u8], round: u64) -> bool {
+        let expected = self.bytes.as_ref();
+        expected.is_none_or(|expected| expected.bytes(round) == bytes)
+    }
+}
+
+/// The bytes of a policy file behind `bytes=`.
+fn file_bytes(word: &str) -> Result<Option<Text>, Bad> {
+    let Some(bytes) = word.strip_prefix("bytes=") else {
+        return Err(Bad::word(word, Sort::Written.expected()));
+    };
+    Text::parse_within(bytes, MOST_OF_FILE).map(Some)
 }
 
 impl fmt::Display for Expected {
     fn fmt(&self, f: &mut fmt::Formatter<'_>) -> fmt::Result {
-        write!(f, "{}{}", self.answer, self.report)
+        write!(f, "{}{}", self.answer, self.report)?;
+        match &self.bytes {
+            Some(bytes) => write!(f, " bytes={}", written(&bytes.bytes(1))),
+            None => Ok(()),
+        }
     }
 }
 
@@ -131,7 +166,10 @@ impl ExpectedAnswer {
             | (Number(0), Answer::Done)
             | (Idle, Answer::Idle) => true,
             (Number(number) | New(number), Answer::New(made)) => number == made,
-            (Number(number), Answer::Found(found) | Answer::Count(found)) => number == found,
+            (
+                Number(number),
+                Answer::Found(found) | Answer::Written(found) | Answer::Count(found),
+            ) => number == found,
             (Number(number), Answer::Served(slot)) => number == slot.number(),
             (Number(number), Answer::State(state)) => state == SlotState::Unknown(number),
             (State(expected), Answer::State(state)) => expected == state,

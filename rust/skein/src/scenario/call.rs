@@ -12,6 +12,12 @@ pub enum Call {
     },
     Ruleset(RulesetCall),
     Policy(PolicyCall),
+    /// Writes the policy file of a ruleset into so many bytes.
+    WritePolicy {
+        ruleset: Operand,
+        name: Text,
+        room: usize,
+    },
     LayerRules {
         layer: Layer,
     },

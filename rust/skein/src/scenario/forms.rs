@@ -11,6 +11,7 @@ use super::poke::{poke, poke_name};
 use super::report::Sort;
 use super::text::Text;
 use super::Bad;
+use crate::policy::LONGEST_FILE;
 use crate::words::one_of;
 use skeinrabbit::{parse_number, Layer, Level, Scopes, Slot};
 
@@ -55,7 +56,7 @@ const EXCHANGE: &str = "exchange THREAD SOURCE DIRECTORY ENTRY` or `exchange THR
 
 const LOG: &str = "log ROOM [USED]` or `log none";
 
-static FORMS: [Form; 35] = [
+static FORMS: [Form; 36] = [
     form("fresh LEVEL", None, fresh),
     form(CREATE_RULESET, Some(Space::Ruleset), create_ruleset),
     form("close_ruleset RULESET", None, close_ruleset),
@@ -81,6 +82,12 @@ static FORMS: [Form; 35] = [
         Sort::Policy,
         apply_policy,
     ),
+    judged(
+        "write_policy RULESET NAME [room=N]",
+        None,
+        Sort::Written,
+        write_policy,
+    ),
     form("restrict THREAD RULESET [FLAGS]", None, restrict),
     form("layer_rules LAYER", None, layer_rules),
     form("clone THREAD", Some(Space::Thread), clone),
@@ -104,7 +111,7 @@ static FORMS: [Form; 35] = [
     form("fresh_queue", None, fresh_queue),
     form(LOG, None, log),
     form("cut BYTES", None, cut),
-    form("written", None, written),
+    judged("written", None, Sort::Written, written),
     form("restart", None, restart),
     form("replay [bytes=TEXT]", None, replay),
     form("poke_name ENTRY NAME [COUNT]", None, poke_name),
@@ -222,8 +229,8 @@ fn policy(arguments: &mut Arguments, apply: bool) -> Result<Call, Bad> {
     }))
 }
 
-/// The most bytes that a line gives: more than any policy file may have.
-pub const MOST_BYTES: usize = 65_536;
+/// More bytes than any policy file may have.
+pub const MOST_OF_FILE: usize = 65_536;
 
 /// A policy file by its bytes or by its name.
 fn file(arguments: &mut Arguments) -> Result<FileOperand, Bad> {
@@ -231,9 +238,26 @@ fn file(arguments: &mut Arguments) -> Result<FileOperand, Bad> {
     match (word, word.strip_prefix("bytes=")) {
         ("none", _) => Text::parse("\"\"").map(FileOperand::Bytes),
         (_, Some("")) => Err(Bad::word(word, "bytes behind `bytes=`, or `none`")),
-        (_, Some(bytes)) => Text::parse_within(bytes, MOST_BYTES).map(FileOperand::Bytes),
+        (_, Some(bytes)) => Text::parse_within(bytes, MOST_OF_FILE).map(FileOperand::Bytes),
         (name, None) => Text::parse(name).map(FileOperand::Name),
     }
+}
+
+fn write_policy(arguments: &mut Arguments) -> Result<Call, Bad> {
+    Ok(Call::WritePolicy {
+        ruleset: arguments.ruleset()?,
+        name: arguments.text()?,
+        room: arguments.next().map_or(Ok(LONGEST_FILE), room)?,
+    })
+}
+
+/// How many bytes a file may be written into.
+fn room(word: &str) -> Result<usize, Bad> {
+    let count = word.strip_prefix("room=").and_then(parse_number);
+    let count = count.and_then(|count| usize::try_from(count).ok());
+    count
+        .filter(|count| *count <= MOST_OF_FILE)
+        .ok_or_else(|| Bad::word(word, format!("`room=` and at most {MOST_OF_FILE} bytes")))
 }
 
 fn restrict(arguments: &mut Arguments) -> Result<Call, Bad> {

@@ -1,7 +1,7 @@
 //! The words about the log.
 use super::arguments::{number, Arguments};
 use super::call::{Call, LogCall};
-use super::forms::MOST_BYTES;
+use super::forms::MOST_OF_FILE;
 use super::text::Text;
 use super::Bad;
 
@@ -50,6 +50,6 @@ pub fn replay(arguments: &mut Arguments) -> Result<Call, Bad> {
             "bytes behind `bytes=`, or the end of the line for the log",
         ));
     };
-    let bytes = Some(Text::parse_within(bytes, MOST_BYTES)?);
+    let bytes = Some(Text::parse_within(bytes, MOST_OF_FILE)?);
     Ok(Call::Log(LogCall::Replay { bytes }))
 }

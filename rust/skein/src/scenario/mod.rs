@@ -19,7 +19,7 @@ pub use call::{
 };
 pub use names::{Names, Operand, Space};
 pub use poke::Poked;
-pub use report::{Mask, PolicyReport, Report, ReportWords, SlotReport};
+pub use report::{Mask, PolicyReport, Report, SlotReport};
 pub use text::{written, Text};
 
 use crate::words::quoted;
@@ -58,17 +58,22 @@ pub struct Statement {
 impl Statement {
     /// Whether an answer, with its report where the call has one, is one that the line allows.
     pub fn allows(&self, answer: Answer, report: Option<Report>) -> bool {
-        let success = Expected {
-            answer: ExpectedAnswer::Success,
-            report: ReportWords::default(),
-        };
-        self.expected.unwrap_or(success).is_met_by(answer, report)
+        match &self.expected {
+            Some(expected) => expected.is_met_by(answer, report),
+            None => !matches!(answer, Answer::Refused(_)),
+        }
+    }
+
+    /// Whether what was written in a round is what the line asks for.
+    pub fn allows_bytes(&self, bytes: &[u8], round: u64) -> bool {
+        let expected = self.expected.as_ref();
+        expected.is_none_or(|expected| expected.is_written(bytes, round))
     }
 
     /// Whether the line names an answer, or a kind of answer.
     pub fn names_an_answer(&self) -> bool {
-        let named = |expected: Expected| expected.answer != ExpectedAnswer::Any;
-        self.expected.is_some_and(named)
+        let named = |expected: &Expected| expected.answer != ExpectedAnswer::Any;
+        self.expected.as_ref().is_some_and(named)
     }
 }
 

@@ -90,6 +90,8 @@ pub enum Sort {
     Component,
     Slot,
     Policy,
+    /// A policy file or a log that is written; a line says its bytes.
+    Written,
 }
 
 impl Sort {
@@ -101,7 +103,7 @@ impl Sort {
     }
 
     /// What may stand after an answer.
-    fn expected(self) -> &'static str {
+    pub fn expected(self) -> &'static str {
         match self {
             Sort::Access => {
                 "layer=, rights=, entries_read= or the end of the line after the answer"
@@ -111,6 +113,7 @@ impl Sort {
                 "answer=, layer=, rights=, entries_read= or the end of the line after the answer"
             }
             Sort::Policy => "file=, place=, length= or the end of the line after the answer",
+            Sort::Written => "bytes= or the end of the line after the answer",
             _ => "layer=, rights= or the end of the line after the answer",
         }
     }
@@ -159,7 +162,7 @@ impl ReportWords {
             Some(("place", text)) if sort == Sort::Policy => {
                 self.place.replace(number(text, "a place")?).is_some()
             }
-            _ if matches!(sort, Sort::Component | Sort::Policy) => {
+            _ if matches!(sort, Sort::Component | Sort::Policy | Sort::Written) => {
                 return Err(Bad::word(word, sort.expected()))
             }
             Some(("layer", text)) => self.layer.replace(layer(text)?).is_some(),

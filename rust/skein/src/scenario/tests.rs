@@ -1,4 +1,5 @@
 //! Tests of the reader.
+use super::report::ReportWords;
 use super::*;
 use skeinrabbit::{
     Attribute, Entry, Errno, Kind, Layer, PortRights, QueuePart, Rights, Scopes, Slot, SlotState,
@@ -28,6 +29,7 @@ fn plain(answer: ExpectedAnswer) -> Expected {
     Expected {
         answer,
         report: ReportWords::default(),
+        bytes: None,
     }
 }
 
@@ -97,7 +99,7 @@ fn names_and_answers_are_taken_off() {
 fn every_form_of_answer_is_read() {
     let expected = |answer: &str| {
         let read = statement(&format!("clone main => {answer}"));
-        let Expected { answer, report } = read.expected.unwrap();
+        let Expected { answer, report, .. } = read.expected.unwrap();
         assert!(report.is_empty());
         answer
     };
@@ -383,6 +385,9 @@ fn logs_are_read() {
     assert_eq!(read("replay => EBADMSG"), LogCall::Replay { bytes: None });
     let bytes = Some(text("\\x00a"));
     assert_eq!(read("replay bytes=\\x00a"), LogCall::Replay { bytes });
+    assert!(statement("written => 1 bytes=a")
+        .expected
+        .is_some_and(|read| read.bytes.is_some()));
     let line = statement("replay => 3");
     assert!(line.allows(Answer::Count(3), None) && !line.allows(Answer::Count(0), None));
     assert!(!statement("replay => new").allows(Answer::Count(0), None));
@@ -401,6 +406,8 @@ fn logs_are_read() {
         "replay bytes=a b",
         "replay -> entry",
         "replay => 0 layer=none",
+        "replay => 0 bytes=a",
+        "written => 1 layer=none",
     ] {
         assert!(parse(line.as_bytes()).is_err(), "{line}");
     }
