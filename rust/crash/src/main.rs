@@ -16,8 +16,8 @@ usage: crash [--seed N] [--seconds N] [--directory DIRECTORY]
 
 Starts a broker that keeps its log in a file, asks it for changes, and kills it with SIGKILL at a random
 moment; the next one goes on from the files. After each kill nothing that was acknowledged may be lost,
-and replay must give the tree that the model has after the whole fields. Files of logs are cut at every
-byte and replayed, too.
+and replay must give the tree that the model has after the whole fields. Some of the files are cut at
+every byte and replayed.
 
   --seed N     the seed of tables and requests (default 1)
   --seconds N  how long (default 60)

@@ -51,7 +51,7 @@ impl fmt::Display for Counts {
         )?;
         write!(
             f,
-            "{acknowledged} requests acknowledged and nothing lost; {cuts} cuts of whole logs"
+            "{acknowledged} requests acknowledged and nothing lost; logs cut at {cuts} places"
         )
     }
 }
@@ -67,7 +67,7 @@ pub struct Trial<'a> {
 }
 
 impl Trial<'_> {
-    /// Kills a broker as often as it lives, and cuts a log of its last life at every byte.
+    /// Kills a broker as often as it lives; in its last life it answers every request, and its log is cut at every byte.
     pub fn run(directory: &Path, seed: u64, counts: &mut Counts) -> Outcome<()> {
         let mut random = Random::new(seed);
         let start = start(&mut random);
@@ -79,27 +79,37 @@ impl Trial<'_> {
             acknowledged: (0, 0),
             counts,
         };
-        for _ in 0..LIVES {
-            trial.life()?;
+        for _ in 1..LIVES {
+            trial.life(false)?;
+            trial.lose()?;
+            trial.look()?;
         }
-        Ok(())
+        trial.life(true)?;
+        trial.look()?;
+        trial.cut()
     }
 
-    /// Lets a broker go on from what is kept, kills it, and looks at what is kept then.
-    fn life(&mut self) -> Outcome<()> {
+    /// Lets a broker go on from what is kept and kills it, perhaps after it answered every request.
+    fn life(&mut self, whole: bool) -> Outcome<()> {
         self.mirror.begin();
         let mut told = vec![self.mirror.place()];
         let mut requests = String::new();
-        for _ in 0..self.random.pick(&[2, 10, 40]) {
+        let count = match whole {
+            true => 60,
+            false => self.random.pick(&[2, 10, 40]),
+        };
+        for _ in 0..count {
             let call = tree_call(&self.mirror.model, &mut self.random);
             self.mirror.request(&call);
             told.push(self.mirror.place());
             requests += &line(&call);
         }
-        let longest = self.mirror.generations.iter();
-        let longest = longest.max_by_key(|generation| generation.log.used);
-        let longest = longest.cloned();
-        let heard = self.killed(&requests, told.len())?;
+        let wanted = match self.random.chance(25) {
+            _ if whole => told.len(),
+            true => 0,
+            false => self.random.between(1, told.len() as u64) as usize,
+        };
+        let heard = self.killed(&requests, wanted)?;
         if !told.starts_with(&heard) {
             return Err(format!("told {heard:?}, and not as the model {told:?}").into());
         }
@@ -107,15 +117,11 @@ impl Trial<'_> {
         self.counts.early += u64::from(heard.is_empty());
         self.counts.acknowledged += heard.len().saturating_sub(1) as u64;
         self.acknowledged = heard.last().copied().unwrap_or(self.acknowledged);
-        self.look()?;
-        match longest {
-            Some(generation) => self.cut(&generation),
-            None => Ok(()),
-        }
+        Ok(())
     }
 
-    /// Runs a broker and kills it at some moment; answers what it told.
-    fn killed(&mut self, requests: &str, told: usize) -> Outcome<Vec<(u64, u64)>> {
+    /// Runs a broker and kills it at some moment after so many acknowledgements; answers all of them.
+    fn killed(&mut self, requests: &str, wanted: usize) -> Outcome<Vec<(u64, u64)>> {
         let mut broker = Command::new(std::env::current_exe()?)
             .arg("broker")
             .arg(self.directory)
@@ -128,10 +134,6 @@ impl Trial<'_> {
         input.write_all(requests.as_bytes())?;
         let mut lines = BufReader::new(output);
         let mut heard = Vec::new();
-        let wanted = match self.random.chance(25) {
-            true => 0,
-            false => self.random.between(1, told as u64) as usize,
-        };
         while heard.len() < wanted {
             let next = acknowledgement(&mut lines)?;
             heard.push(next.ok_or("the broker ended by itself")?);
@@ -146,19 +148,32 @@ impl Trial<'_> {
         Ok(heard)
     }
 
+    /// Loses bytes of the log that were not acknowledged, as may happen when the power fails.
+    fn lose(&mut self) -> Outcome<()> {
+        let kept = store::read(self.directory)?;
+        let (generation, used) = self.acknowledged;
+        let safe = if generation == kept.generation {
+            used
+        } else {
+            0
+        };
+        let length = kept.log.len() as u64;
+        if length > safe && self.random.chance(40) {
+            truncate(
+                self.directory,
+                kept.generation,
+                self.random.between(safe, length),
+            )?;
+        }
+        Ok(())
+    }
+
     /// Looks at what is kept: nothing acknowledged is lost, and replay gives the tree after the whole fields.
     fn look(&mut self) -> Outcome<()> {
-        let mut kept = store::read(self.directory)?;
+        let kept = store::read(self.directory)?;
         let (place, safe) = ((kept.generation, kept.log.len() as u64), self.acknowledged);
         if place < safe {
             return Err(format!("{safe:?} is acknowledged, {place:?} is kept").into());
-        }
-        // What is not acknowledged may be lost when the power fails.
-        let safe = if safe.0 == place.0 { safe.1 } else { 0 };
-        if place.1 > safe && self.random.chance(40) {
-            let length = self.random.between(safe, place.1);
-            truncate(&log_file(self.directory, kept.generation), length)?;
-            kept = store::read(self.directory)?;
         }
         let found = self.mirror.found(kept.generation, &kept.log);
         let dropped = replayed(kept, found.ok_or("a log is kept that the model never had")?)?;
@@ -166,23 +181,14 @@ impl Trial<'_> {
         Ok(())
     }
 
-    /// Cuts the file of a whole log at every byte, from its end on.
-    fn cut(&mut self, generation: &Generation) -> Outcome<()> {
-        if self.random.chance(90) {
-            return Ok(());
-        }
-        let file = self.directory.join("cut");
-        std::fs::write(&file, generation.log.written())?;
-        let cells = cells(generation.history.start());
-        for length in (0..=generation.log.used).rev() {
-            truncate(&file, length)?;
-            let kept = Kept {
-                generation: generation.number,
-                cells: cells.clone(),
-                log: std::fs::read(&file)?,
-            };
-            replayed(kept, generation)?;
-            self.counts.cuts += 1;
+    /// Cuts the file of the log at every byte, from its end on.
+    fn cut(&mut self) -> Outcome<()> {
+        for generation in &self.mirror.generations {
+            for length in (0..=generation.log.used).rev() {
+                truncate(self.directory, generation.number, length)?;
+                replayed(store::read(self.directory)?, generation)?;
+                self.counts.cuts += 1;
+            }
         }
         Ok(())
     }
@@ -227,7 +233,9 @@ fn line(call: &Call) -> String {
     format!("{} {}\n", call.name(), numbers.join(" "))
 }
 
-fn truncate(file: &Path, length: u64) -> Outcome<()> {
+/// Cuts the file of a log.
+fn truncate(directory: &Path, generation: u64, length: u64) -> Outcome<()> {
+    let file = log_file(directory, generation);
     let file = OpenOptions::new().write(true).open(file)?;
     Ok(file.set_len(length)?)
 }
