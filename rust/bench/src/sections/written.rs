@@ -141,14 +141,14 @@ fn below(directory: &[u8], count: u64, rules: u64, links: u64, name: usize) -> T
     tree.finish()
 }
 
-/// As many directories in one another as there may be, with names of one byte, and rules on the last ones.
+/// As many directories in one another as there may be, with names of one byte, and rules on the last ones, the last one last.
 fn chain() -> Tables {
     let mut tree = Tree::new();
     for parent in 0..ALL - 1 {
         tree.put(DIRECTORY, parent, b"d");
     }
     for number in 0..MAX_RULES as u64 {
-        tree.rule(ALL - 1 - number);
+        tree.rule(ALL - MAX_RULES as u64 + number);
     }
     tree.finish()
 }
