@@ -202,7 +202,7 @@ static void take_file(int from, uint64_t directory, const char *name)
 		kind = SKEIN_KIND_SYMLINK;
 	if (kind == 0)
 		die(name, EINVAL);
-	entry = must(name, skeinrabbit_create(&tables, SKEIN_FIRST_THREAD, directory, kind, name, strlen(name), NULL));
+	entry = must(name, skeinrabbit_create(&tables, SKEIN_FIRST_THREAD, directory, kind, name, strlen(name), NULL, NULL));
 	if (kind == SKEIN_KIND_DIRECTORY)
 		scan(entry);
 }
@@ -261,13 +261,13 @@ static int64_t change_tables(uint64_t thread, uint32_t operation, const struct p
 
 	switch (operation) {
 	case CREATE:
-		return skeinrabbit_create(&tables, thread, to->directory, SKEIN_KIND_REGULAR, to->name, length, report);
+		return skeinrabbit_create(&tables, thread, to->directory, SKEIN_KIND_REGULAR, to->name, length, NULL, report);
 	case MKDIR:
-		return skeinrabbit_create(&tables, thread, to->directory, SKEIN_KIND_DIRECTORY, to->name, length, report);
+		return skeinrabbit_create(&tables, thread, to->directory, SKEIN_KIND_DIRECTORY, to->name, length, NULL, report);
 	case REMOVE:
-		return skeinrabbit_remove(&tables, thread, from->entry, report);
+		return skeinrabbit_remove(&tables, thread, from->entry, NULL, report);
 	default:
-		return skeinrabbit_rename(&tables, thread, from->entry, to->directory, to->name, length, report);
+		return skeinrabbit_rename(&tables, thread, from->entry, to->directory, to->name, length, NULL, report);
 	}
 }
 

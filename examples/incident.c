@@ -50,10 +50,10 @@ static void must(const char *what, int64_t answer, int64_t expected)
 static void make_tree(void)
 {
 	must("fresh tables", skeinrabbit_fresh(&tables, SKEIN_MAX_LEVEL), 0);
-	must("create /cal", skeinrabbit_create(&tables, 0, SKEIN_ROOT, SKEIN_KIND_DIRECTORY, "cal", 3, NULL), CAL);
-	must("create /import", skeinrabbit_create(&tables, 0, SKEIN_ROOT, SKEIN_KIND_DIRECTORY, "import", 6, NULL), IMPORT);
-	must("create /cal/table", skeinrabbit_create(&tables, 0, CAL, SKEIN_KIND_REGULAR, "table", 5, NULL), TABLE);
-	must("create /import/feed", skeinrabbit_create(&tables, 0, IMPORT, SKEIN_KIND_REGULAR, "feed", 4, NULL), FEED);
+	must("create /cal", skeinrabbit_create(&tables, 0, SKEIN_ROOT, SKEIN_KIND_DIRECTORY, "cal", 3, NULL, NULL), CAL);
+	must("create /import", skeinrabbit_create(&tables, 0, SKEIN_ROOT, SKEIN_KIND_DIRECTORY, "import", 6, NULL, NULL), IMPORT);
+	must("create /cal/table", skeinrabbit_create(&tables, 0, CAL, SKEIN_KIND_REGULAR, "table", 5, NULL, NULL), TABLE);
+	must("create /import/feed", skeinrabbit_create(&tables, 0, IMPORT, SKEIN_KIND_REGULAR, "feed", 4, NULL, NULL), FEED);
 }
 
 /* Everything in /import; in /cal what the caller says. */
@@ -73,9 +73,9 @@ static void replay(int64_t move_out, int64_t move_back)
 	step("read /cal/table", skeinrabbit_access(&tables, 0, TABLE, SKEIN_FS_READ_FILE, NULL), 0);
 	step("write /cal/table", skeinrabbit_access(&tables, 0, TABLE, SKEIN_FS_WRITE_FILE, NULL), -SKEIN_EACCES);
 	step("write /import/feed", skeinrabbit_access(&tables, 0, FEED, SKEIN_FS_WRITE_FILE, NULL), 0);
-	step("move /cal/table to /import", skeinrabbit_rename(&tables, 0, TABLE, IMPORT, "table", 5, NULL), move_out);
+	step("move /cal/table to /import", skeinrabbit_rename(&tables, 0, TABLE, IMPORT, "table", 5, NULL, NULL), move_out);
 	step("write the table after the attempt", skeinrabbit_access(&tables, 0, TABLE, SKEIN_FS_WRITE_FILE, NULL), -SKEIN_EACCES);
-	step("move the table back to /cal", skeinrabbit_rename(&tables, 0, TABLE, CAL, "table", 5, NULL), move_back);
+	step("move the table back to /cal", skeinrabbit_rename(&tables, 0, TABLE, CAL, "table", 5, NULL, NULL), move_back);
 	step("write /cal/table", skeinrabbit_access(&tables, 0, TABLE, SKEIN_FS_WRITE_FILE, NULL), -SKEIN_EACCES);
 }
 

@@ -4,28 +4,31 @@
  * All state lies in one `struct skein_tables`, which the caller owns. Make it fresh once, then pass it to every call. Nothing is
  * allocated, and a refused call changes no cell. Requests that are to be answered in turn wait in a `struct skein_queue`; many
  * that are to be answered at once are an array of `struct skein_request`. Rulesets may also come from policy files, and be written
- * into one.
+ * into one. Changes of the tree can be kept in a `struct skein_log`, and made again from it.
  *
  * Every call answers a number of zero or more (a new entry, ruleset or thread where one is made, what its comment says, else 0),
- * or a negative error number. Each comment below lists a call's refusals in the order in which they are tested. Before all of them, every call but
- * skeinrabbit_fresh answers -EIO if the tables are not sound. A number out of range counts as not live or not open.
+ * or a negative error number. Each comment below lists a call's refusals in the order in which they are tested. Before all of them,
+ * every call but skeinrabbit_fresh answers -EIO if the tables are not sound. A number out of range counts as not live or not open.
  *
  * Requests about entries and ports and changes of the tree have a last argument `report`, which may be NULL. It is written with
  * every answer: where a layer refuses (EACCES, EXDEV) it says which layer and which rights, and none with every other answer.
  * skeinrabbit_access also says how many entries' rules it read.
  *
+ * Changes of the tree have an argument `log` before it, which may be NULL: then no log is kept. A change that succeeds and changes an
+ * entry or a name is appended to the log; one whose field has no room is -ENOSPC, after all its other refusals, and changes nothing.
+ *
  * Every entry but the root has a name of 1 to 48 bytes without slash or zero byte, not "." or "..", that no other entry of its
  * directory has. Names and paths are bytes with a length and need no closing zero.
  *
  * Any cells and any numbers are answered. A call is defined if
- * - every pointer is valid for what it points to (a whole struct skein_tables or skein_queue, `size` bytes, `count` requests or
- *   verdicts), aligned for its type and not NULL.
- *   Only an attribute, a name, a path, a policy file, the room for one or the names of a batch may be NULL, and count as no bytes
- *   then, whatever their size; and a report, and the requests and verdicts of a batch without requests;
- * - none of these overlap: the tables, a queue, the bytes of an attribute, a name, a path or a policy file, the room for one, a
- *   report, the requests, names and verdicts of a batch, and the two places where skeinrabbit_layer_rules and skeinrabbit_component
- *   report. Two policy files may be the same bytes;
- * - 96 KiB of stack are left, for skeinrabbit_batch 1 MiB (docs/PERFORMANCE.md), which a thread or coroutine with a small stack
+ * - every pointer is valid for what it points to (a whole struct skein_tables, skein_queue or skein_log, `size` bytes, `count` requests
+ *   or verdicts), aligned for its type and not NULL.
+ *   Only an attribute, a name, a path, a policy file, the room for one, the bytes of a log that is replayed or the names of a batch may be
+ *   NULL, and count as no bytes then, whatever their size; and a report, a log, and the requests and verdicts of a batch without requests;
+ * - none of these overlap: the tables, a queue, the bytes of an attribute, a name, a path, a policy file or a log, the room for a policy
+ *   file, a struct skein_log, a report, the requests, names and verdicts of a batch, and the two places where skeinrabbit_layer_rules and
+ *   skeinrabbit_component report. Two policy files may be the same bytes;
+ * - 128 KiB of stack are left, for skeinrabbit_batch 1 MiB (docs/PERFORMANCE.md), which a thread or coroutine with a small stack
  *   may not have;
  * - no other call on the same tables or the same queue runs meanwhile, from a thread or from a signal handler. Calls on others may;
  * - the program is for x86-64 Linux, as the archive is.
@@ -66,6 +69,7 @@ extern "C" {
 #define SKEIN_MAX_PATH 4095 /* bytes of a path that is looked up */
 #define SKEIN_MAX_POLICY 32768     /* bytes of a policy file */
 #define SKEIN_MAX_RULESET_NAME 32  /* bytes of a ruleset's name in a policy file */
+#define SKEIN_MAX_LOG_VALUE 64     /* bytes of the value of a log's field */
 
 /* Cells of a rule and of a row of each table. */
 #define SKEIN_RULE_CELLS 3
@@ -121,6 +125,33 @@ struct skein_queue {
 };
 
 #define SKEIN_FRESH_QUEUE { { 0 }, { 0 }, { 0 }, SKEIN_MAX_SLOTS - 1 }
+
+/*
+ * A log of changes of the tree (docs/LOG.md). It starts empty, with the caller's bytes as its room:
+ *
+ *     static uint8_t room[4096];
+ *     static struct skein_log changes = SKEIN_EMPTY_LOG(room);
+ *
+ * The log itself is the first `used` bytes of `bytes`: it is these that are kept in a file and given to skeinrabbit_replay, and not the
+ * whole buffer, whose zeros would be damage. No call writes a byte before `used`. If `used` is more than `size` there is no room.
+ */
+struct skein_log {
+	uint8_t *bytes;
+	size_t size;
+	uint64_t used;
+};
+
+#define SKEIN_EMPTY_LOG(room) { (room), sizeof(room), 0 }
+
+/* Tags of the fields of a log. A field is a tag, two bytes of length, the lower one first, and the value. */
+#define SKEIN_LOG_CREATE 16   /* kind (1 byte), directory, name */
+#define SKEIN_LOG_REMOVE 17   /* entry */
+#define SKEIN_LOG_LINK 18     /* source, directory, name */
+#define SKEIN_LOG_RENAME 19   /* source, directory, name */
+#define SKEIN_LOG_EXCHANGE 20 /* source, directory, other entry */
+
+/* Bytes that any field of a log fits in. */
+#define SKEIN_LOG_FIELD_BYTES (3 + SKEIN_MAX_LOG_VALUE)
 
 /* States of a slot. */
 #define SKEIN_SLOT_EMPTY 0
@@ -320,9 +351,11 @@ struct skein_policy_report {
  * length, too; `cursor` is one cell, and a call on a queue with a part of a wrong length answers EIO. So may the lists of a batch: one
  * whose requests end within a request, or with fewer than 3 cells for the verdict of each, is EINVAL, and cells past the last verdict
  * stay. Bytes of `out` past the file stay, and all of them where a call is refused.
+ * The changes of the tree take the bytes of a log, of any length, and `used`, one cell, which may hold any number; skein_replay takes
+ * the written bytes of one.
  * Each pointer must be aligned (cells to 8 bytes) and valid for its length, and not NULL even if the length is 0. The tables, the
- * parts of a queue, the lists of a batch, the bytes of an attribute, a name, a path or a policy file, the bytes `out`, a report and the
- * report `part` must not overlap.
+ * parts of a queue, the lists of a batch, the bytes of an attribute, a name, a path, a policy file or a log, the bytes `out`, `used`, a
+ * report and the report `part` must not overlap.
  */
 #define SKEIN_TABLE_PARAMETERS(cell, byte) \
 	cell *system_cells, size_t system_length, cell *entries, size_t entries_length, cell *rulesets, \
@@ -349,14 +382,16 @@ extern uint64_t skein_port(SKEIN_CONST_TABLES, uint64_t thread, uint64_t port, u
 extern uint64_t skein_signal(SKEIN_CONST_TABLES, uint64_t thread, uint64_t target);
 extern uint64_t skein_abstract_socket(SKEIN_CONST_TABLES, uint64_t thread, uint64_t target);
 extern uint64_t skein_create(SKEIN_TABLES, uint64_t thread, uint64_t directory, uint64_t kind, const uint8_t *name, size_t name_length,
+			     uint8_t *log, size_t log_length, uint64_t *used, uint64_t *report, size_t report_length);
+extern uint64_t skein_remove(SKEIN_TABLES, uint64_t thread, uint64_t entry, uint8_t *log, size_t log_length, uint64_t *used,
 			     uint64_t *report, size_t report_length);
-extern uint64_t skein_remove(SKEIN_TABLES, uint64_t thread, uint64_t entry, uint64_t *report, size_t report_length);
 extern uint64_t skein_link(SKEIN_TABLES, uint64_t thread, uint64_t source, uint64_t directory, const uint8_t *name, size_t name_length,
-			   uint64_t *report, size_t report_length);
+			   uint8_t *log, size_t log_length, uint64_t *used, uint64_t *report, size_t report_length);
 extern uint64_t skein_rename(SKEIN_TABLES, uint64_t thread, uint64_t source, uint64_t directory, const uint8_t *name, size_t name_length,
-			     uint64_t *report, size_t report_length);
-extern uint64_t skein_exchange(SKEIN_TABLES, uint64_t thread, uint64_t source, uint64_t directory, uint64_t entry, uint64_t *report,
-			       size_t report_length);
+			     uint8_t *log, size_t log_length, uint64_t *used, uint64_t *report, size_t report_length);
+extern uint64_t skein_exchange(SKEIN_TABLES, uint64_t thread, uint64_t source, uint64_t directory, uint64_t entry, uint8_t *log,
+			       size_t log_length, uint64_t *used, uint64_t *report, size_t report_length);
+extern uint64_t skein_replay(SKEIN_TABLES, const uint8_t *log, size_t log_length);
 extern uint64_t skein_lookup(SKEIN_CONST_TABLES, const uint8_t *path, size_t path_length);
 extern uint64_t skein_component(const uint8_t *path, size_t path_length, uint64_t place, uint64_t *part, size_t part_length);
 
@@ -379,6 +414,9 @@ extern uint64_t skein_write_policy(SKEIN_CONST_TABLES, uint64_t ruleset, const u
 #define SKEIN_QUEUE_ARGUMENTS(q) \
 	(q)->requests, sizeof((q)->requests) / sizeof(uint64_t), (q)->states, sizeof((q)->states) / sizeof(uint64_t), \
 		(q)->answers, sizeof((q)->answers) / sizeof(uint64_t), &(q)->cursor
+
+/* A log as the arguments of an archive's function. */
+#define SKEIN_LOG_ARGUMENTS(l) (l)->bytes, (l)->size, &(l)->used
 
 /* The tables of a struct as the arguments of an archive's function. */
 #define SKEIN_TABLE_ARGUMENTS(t) \
@@ -415,6 +453,23 @@ static inline int64_t skeinrabbit_policy_reported(uint64_t result, const uint64_
 		report->length = cells[2];
 	}
 	return skeinrabbit_answer(result);
+}
+
+/* Room for the field of one change, which is dropped: the archive's functions always take a log. */
+struct skein_no_log {
+	uint8_t field[SKEIN_LOG_FIELD_BYTES];
+	struct skein_log log;
+};
+
+/* The caller's log, or if there is none one that is dropped. */
+static inline struct skein_log *skeinrabbit_log_or(struct skein_log *log, struct skein_no_log *none)
+{
+	if (log != NULL)
+		return log;
+	none->log.bytes = none->field;
+	none->log.size = sizeof(none->field);
+	none->log.used = 0;
+	return &none->log;
 }
 
 /* Bytes as the archive's functions take them, of which NULL is none. */
@@ -679,14 +734,16 @@ static inline int64_t skeinrabbit_component(const char *path, size_t size, uint6
  * Creates an entry of a kind in a directory, with a name; answers its number.
  * ESRCH thread not live; ENOENT directory not live; ENOTDIR it is no directory; ENAMETOOLONG a name of more than 48 bytes; EINVAL
  * a name that is empty, "." or "..", or has a slash or a zero byte; EEXIST the directory has the name; EINVAL unknown kind; EACCES
- * MAKE of the kind denied; ENOSPC no free entry or no object number left.
+ * MAKE of the kind denied; ENOSPC no free entry or no object number left; ENOSPC no room in the log.
  */
 static inline int64_t skeinrabbit_create(struct skein_tables *t, uint64_t thread, uint64_t directory, uint64_t kind,
-					 const void *name, size_t size, struct skein_report *report)
+					 const void *name, size_t size, struct skein_log *log, struct skein_report *report)
 {
 	uint64_t cells[SKEIN_REPORT_CELLS] = { 0 };
+	struct skein_no_log none;
+	struct skein_log *const kept = skeinrabbit_log_or(log, &none);
 	const uint64_t result = skein_create(SKEIN_TABLE_ARGUMENTS(t), thread, directory, kind, skeinrabbit_bytes(name, size),
-					     skeinrabbit_length(name, size), cells, SKEIN_REPORT_CELLS);
+					     skeinrabbit_length(name, size), SKEIN_LOG_ARGUMENTS(kept), cells, SKEIN_REPORT_CELLS);
 
 	return skeinrabbit_reported(result, cells, report);
 }
@@ -694,12 +751,16 @@ static inline int64_t skeinrabbit_create(struct skein_tables *t, uint64_t thread
 /*
  * Removes an entry.
  * ESRCH thread not live; ENOENT entry not live; EBUSY it is the root; EACCES REMOVE of its kind denied at its parent;
- * ENOTEMPTY a directory with entries.
+ * ENOTEMPTY a directory with entries; ENOSPC no room in the log.
  */
-static inline int64_t skeinrabbit_remove(struct skein_tables *t, uint64_t thread, uint64_t entry, struct skein_report *report)
+static inline int64_t skeinrabbit_remove(struct skein_tables *t, uint64_t thread, uint64_t entry, struct skein_log *log,
+					 struct skein_report *report)
 {
 	uint64_t cells[SKEIN_REPORT_CELLS] = { 0 };
-	const uint64_t result = skein_remove(SKEIN_TABLE_ARGUMENTS(t), thread, entry, cells, SKEIN_REPORT_CELLS);
+	struct skein_no_log none;
+	struct skein_log *const kept = skeinrabbit_log_or(log, &none);
+	const uint64_t result = skein_remove(SKEIN_TABLE_ARGUMENTS(t), thread, entry, SKEIN_LOG_ARGUMENTS(kept), cells,
+					     SKEIN_REPORT_CELLS);
 
 	return skeinrabbit_reported(result, cells, report);
 }
@@ -708,14 +769,16 @@ static inline int64_t skeinrabbit_remove(struct skein_tables *t, uint64_t thread
  * Makes a hard link to the source's object in a directory, with a name; answers the new entry.
  * ESRCH thread not live; ENOENT source or directory not live; EBUSY source is the root; ENOTDIR target is no directory;
  * ENAMETOOLONG and EINVAL a bad name as for skeinrabbit_create; EEXIST the directory has the name; EPERM source is a directory;
- * EACCES MAKE denied; EXDEV REFER denied, or the link would gain a right; ENOSPC no free entry.
+ * EACCES MAKE denied; EXDEV REFER denied, or the link would gain a right; ENOSPC no free entry; ENOSPC no room in the log.
  */
 static inline int64_t skeinrabbit_link(struct skein_tables *t, uint64_t thread, uint64_t source, uint64_t directory,
-				       const void *name, size_t size, struct skein_report *report)
+				       const void *name, size_t size, struct skein_log *log, struct skein_report *report)
 {
 	uint64_t cells[SKEIN_REPORT_CELLS] = { 0 };
+	struct skein_no_log none;
+	struct skein_log *const kept = skeinrabbit_log_or(log, &none);
 	const uint64_t result = skein_link(SKEIN_TABLE_ARGUMENTS(t), thread, source, directory, skeinrabbit_bytes(name, size),
-					   skeinrabbit_length(name, size), cells, SKEIN_REPORT_CELLS);
+					   skeinrabbit_length(name, size), SKEIN_LOG_ARGUMENTS(kept), cells, SKEIN_REPORT_CELLS);
 
 	return skeinrabbit_reported(result, cells, report);
 }
@@ -725,15 +788,18 @@ static inline int64_t skeinrabbit_link(struct skein_tables *t, uint64_t thread, 
  * number is free then. The source keeps its number.
  * ESRCH thread not live; ENOENT source or directory not live; EBUSY source is the root; ENOTDIR target is no directory;
  * ENAMETOOLONG and EINVAL a bad name as for skeinrabbit_create; EINVAL source is the directory or above it; EACCES REMOVE or MAKE
- * denied; EXDEV REFER denied, or the source would gain a right; source and replaced entry the same object: 0, nothing changes;
- * ENOTDIR a directory over another kind; EISDIR the reverse; ENOTEMPTY replaced directory with entries.
+ * denied; EXDEV REFER denied, or the source would gain a right; source and replaced entry the same object: 0, nothing changes, and
+ * no room is needed; ENOTDIR a directory over another kind; EISDIR the reverse; ENOTEMPTY replaced directory with entries; ENOSPC no
+ * room in the log.
  */
 static inline int64_t skeinrabbit_rename(struct skein_tables *t, uint64_t thread, uint64_t source, uint64_t directory,
-					 const void *name, size_t size, struct skein_report *report)
+					 const void *name, size_t size, struct skein_log *log, struct skein_report *report)
 {
 	uint64_t cells[SKEIN_REPORT_CELLS] = { 0 };
+	struct skein_no_log none;
+	struct skein_log *const kept = skeinrabbit_log_or(log, &none);
 	const uint64_t result = skein_rename(SKEIN_TABLE_ARGUMENTS(t), thread, source, directory, skeinrabbit_bytes(name, size),
-					     skeinrabbit_length(name, size), cells, SKEIN_REPORT_CELLS);
+					     skeinrabbit_length(name, size), SKEIN_LOG_ARGUMENTS(kept), cells, SKEIN_REPORT_CELLS);
 
 	return skeinrabbit_reported(result, cells, report);
 }
@@ -742,16 +808,33 @@ static inline int64_t skeinrabbit_rename(struct skein_tables *t, uint64_t thread
  * Exchanges an entry with an entry of a directory, names with places.
  * ESRCH thread not live; ENOENT source, directory or other entry not live; EBUSY source or other entry is the root; ENOTDIR
  * target is no directory; EINVAL other entry not in the directory; EINVAL source is the directory or above it; EINVAL other
- * entry is the source's parent or above it; EACCES REMOVE or MAKE denied; EXDEV REFER denied, or either would gain a right.
- * Both the same object: 0, nothing changes.
+ * entry is the source's parent or above it; EACCES REMOVE or MAKE denied; EXDEV REFER denied, or either would gain a right; ENOSPC
+ * no room in the log.
+ * Both the same object: 0, nothing changes, and no room is needed.
  */
 static inline int64_t skeinrabbit_exchange(struct skein_tables *t, uint64_t thread, uint64_t source, uint64_t directory,
-					   uint64_t entry, struct skein_report *report)
+					   uint64_t entry, struct skein_log *log, struct skein_report *report)
 {
 	uint64_t cells[SKEIN_REPORT_CELLS] = { 0 };
-	const uint64_t result = skein_exchange(SKEIN_TABLE_ARGUMENTS(t), thread, source, directory, entry, cells, SKEIN_REPORT_CELLS);
+	struct skein_no_log none;
+	struct skein_log *const kept = skeinrabbit_log_or(log, &none);
+	const uint64_t result = skein_exchange(SKEIN_TABLE_ARGUMENTS(t), thread, source, directory, entry, SKEIN_LOG_ARGUMENTS(kept), cells,
+					       SKEIN_REPORT_CELLS);
 
 	return skeinrabbit_reported(result, cells, report);
+}
+
+/*
+ * Makes the changes of a log again, without threads and verdicts; answers how many bytes at its tail were dropped because they are no
+ * whole field. `log` are the `size` bytes of the log that are written, `used` of a struct skein_log, or what is left of them. On the
+ * tables at which the log was empty this gives the tree after exactly those changes whose fields are whole (docs/LOG.md has the
+ * conditions); the other tables stay as they are.
+ * EBADMSG a whole field of an unknown tag, or with another value than docs/LOG.md lists, or whose call would refuse (thread, verdict and
+ * log apart) or change nothing: then no cell has changed, whatever stood before that field.
+ */
+static inline int64_t skeinrabbit_replay(struct skein_tables *t, const void *log, size_t size)
+{
+	return skeinrabbit_answer(skein_replay(SKEIN_TABLE_ARGUMENTS(t), skeinrabbit_bytes(log, size), skeinrabbit_length(log, size)));
 }
 
 /*

@@ -74,21 +74,21 @@ static void requests(struct skein_tables *t)
 
 static void tree_calls(struct skein_tables *t)
 {
-	expect("create, denied", skeinrabbit_create(t, 1, 1, SKEIN_KIND_SOCKET, "new", 3, NULL), -SKEIN_EACCES);
-	expect("create, unknown kind", skeinrabbit_create(t, 1, 1, 8, "new", 3, NULL), -SKEIN_EINVAL);
-	expect("create, taken", skeinrabbit_create(t, 1, 1, 8, "table", 5, NULL), -SKEIN_EEXIST);
-	expect("link", skeinrabbit_link(t, 0, 2, SKEIN_ROOT, "twin", 4, NULL), 4);
-	expect("link, taken", skeinrabbit_link(t, 0, 2, SKEIN_ROOT, "twin", 4, NULL), -SKEIN_EEXIST);
-	expect("link, REFER denied", skeinrabbit_link(t, 1, 2, SKEIN_ROOT, "other", 5, NULL), -SKEIN_EXDEV);
-	expect("rename", skeinrabbit_rename(t, 0, 2, SKEIN_ROOT, "table", 5, NULL), 0);
+	expect("create, denied", skeinrabbit_create(t, 1, 1, SKEIN_KIND_SOCKET, "new", 3, NULL, NULL), -SKEIN_EACCES);
+	expect("create, unknown kind", skeinrabbit_create(t, 1, 1, 8, "new", 3, NULL, NULL), -SKEIN_EINVAL);
+	expect("create, taken", skeinrabbit_create(t, 1, 1, 8, "table", 5, NULL, NULL), -SKEIN_EEXIST);
+	expect("link", skeinrabbit_link(t, 0, 2, SKEIN_ROOT, "twin", 4, NULL, NULL), 4);
+	expect("link, taken", skeinrabbit_link(t, 0, 2, SKEIN_ROOT, "twin", 4, NULL, NULL), -SKEIN_EEXIST);
+	expect("link, REFER denied", skeinrabbit_link(t, 1, 2, SKEIN_ROOT, "other", 5, NULL, NULL), -SKEIN_EXDEV);
+	expect("rename", skeinrabbit_rename(t, 0, 2, SKEIN_ROOT, "table", 5, NULL, NULL), 0);
 	expect("lookup of what was renamed", skeinrabbit_lookup(t, "/table", 6), 2);
-	expect("rename over its own link", skeinrabbit_rename(t, 0, 2, SKEIN_ROOT, "twin", 4, NULL), 0);
+	expect("rename over its own link", skeinrabbit_rename(t, 0, 2, SKEIN_ROOT, "twin", 4, NULL, NULL), 0);
 	expect("lookup of the link", skeinrabbit_lookup(t, "/twin", 5), 4);
-	expect("rename, file over directory", skeinrabbit_rename(t, 0, 2, SKEIN_ROOT, "cal", 3, NULL), -SKEIN_EISDIR);
-	expect("exchange", skeinrabbit_exchange(t, 0, 3, SKEIN_ROOT, 2, NULL), 0);
+	expect("rename, file over directory", skeinrabbit_rename(t, 0, 2, SKEIN_ROOT, "cal", 3, NULL, NULL), -SKEIN_EISDIR);
+	expect("exchange", skeinrabbit_exchange(t, 0, 3, SKEIN_ROOT, 2, NULL, NULL), 0);
 	expect("lookup of what was exchanged", skeinrabbit_lookup(t, "/table", 6), 3);
-	expect("remove, root", skeinrabbit_remove(t, 0, SKEIN_ROOT, NULL), -SKEIN_EBUSY);
-	expect("remove", skeinrabbit_remove(t, 0, 4, NULL), 0);
+	expect("remove, root", skeinrabbit_remove(t, 0, SKEIN_ROOT, NULL, NULL), -SKEIN_EBUSY);
+	expect("remove", skeinrabbit_remove(t, 0, 4, NULL, NULL), 0);
 }
 
 /* Names of all lengths, and bytes that are no name. The tree is that of main: 1 /cal, 2 /cal/table, 3 /feed. */
@@ -97,16 +97,16 @@ static void names(struct skein_tables *t)
 	char longest[SKEIN_MAX_NAME + 1];
 
 	memset(longest, 'n', sizeof(longest));
-	expect("create, no bytes", skeinrabbit_create(t, 0, 1, SKEIN_KIND_REGULAR, NULL, 9, NULL), -SKEIN_EINVAL);
-	expect("create, 0 bytes", skeinrabbit_create(t, 0, 1, SKEIN_KIND_REGULAR, "x", 0, NULL), -SKEIN_EINVAL);
-	expect("create, ..", skeinrabbit_create(t, 0, 1, SKEIN_KIND_REGULAR, "..", 2, NULL), -SKEIN_EINVAL);
-	expect("create, a slash", skeinrabbit_create(t, 0, 1, SKEIN_KIND_REGULAR, "a/b", 3, NULL), -SKEIN_EINVAL);
-	expect("create, a zero byte", skeinrabbit_create(t, 0, 1, SKEIN_KIND_REGULAR, "a", 2, NULL), -SKEIN_EINVAL);
-	expect("create, 49 bytes", skeinrabbit_create(t, 0, 1, SKEIN_KIND_REGULAR, longest, sizeof(longest), NULL),
+	expect("create, no bytes", skeinrabbit_create(t, 0, 1, SKEIN_KIND_REGULAR, NULL, 9, NULL, NULL), -SKEIN_EINVAL);
+	expect("create, 0 bytes", skeinrabbit_create(t, 0, 1, SKEIN_KIND_REGULAR, "x", 0, NULL, NULL), -SKEIN_EINVAL);
+	expect("create, ..", skeinrabbit_create(t, 0, 1, SKEIN_KIND_REGULAR, "..", 2, NULL, NULL), -SKEIN_EINVAL);
+	expect("create, a slash", skeinrabbit_create(t, 0, 1, SKEIN_KIND_REGULAR, "a/b", 3, NULL, NULL), -SKEIN_EINVAL);
+	expect("create, a zero byte", skeinrabbit_create(t, 0, 1, SKEIN_KIND_REGULAR, "a", 2, NULL, NULL), -SKEIN_EINVAL);
+	expect("create, 49 bytes", skeinrabbit_create(t, 0, 1, SKEIN_KIND_REGULAR, longest, sizeof(longest), NULL, NULL),
 	       -SKEIN_ENAMETOOLONG);
-	expect("create, 48 bytes", skeinrabbit_create(t, 0, 1, SKEIN_KIND_REGULAR, longest, SKEIN_MAX_NAME, NULL), 4);
+	expect("create, 48 bytes", skeinrabbit_create(t, 0, 1, SKEIN_KIND_REGULAR, longest, SKEIN_MAX_NAME, NULL, NULL), 4);
 	expect("its length", t->names[4 * SKEIN_NAME_BYTES], SKEIN_MAX_NAME);
-	expect("remove", skeinrabbit_remove(t, 0, 4, NULL), 0);
+	expect("remove", skeinrabbit_remove(t, 0, 4, NULL, NULL), 0);
 	expect("its row", t->names[4 * SKEIN_NAME_BYTES], 0);
 	t->names[0] = 1;
 	expect("lookup, the root has a name", skeinrabbit_lookup(t, "/", 1), -SKEIN_EIO);
@@ -218,10 +218,10 @@ static void worked_tree(struct skein_tables *t, uint64_t cal_rights)
 	const struct skein_ruleset_attr attr = { WORKED, 0, 0 };
 
 	expect("fresh", skeinrabbit_fresh(t, SKEIN_MAX_LEVEL), 0);
-	expect("create", skeinrabbit_create(t, 0, SKEIN_ROOT, SKEIN_KIND_DIRECTORY, "cal", 3, NULL), 1);
-	expect("create", skeinrabbit_create(t, 0, SKEIN_ROOT, SKEIN_KIND_DIRECTORY, "import", 6, NULL), 2);
-	expect("create", skeinrabbit_create(t, 0, 1, SKEIN_KIND_REGULAR, "table", 5, NULL), 3);
-	expect("create", skeinrabbit_create(t, 0, 2, SKEIN_KIND_REGULAR, "feed", 4, NULL), 4);
+	expect("create", skeinrabbit_create(t, 0, SKEIN_ROOT, SKEIN_KIND_DIRECTORY, "cal", 3, NULL, NULL), 1);
+	expect("create", skeinrabbit_create(t, 0, SKEIN_ROOT, SKEIN_KIND_DIRECTORY, "import", 6, NULL, NULL), 2);
+	expect("create", skeinrabbit_create(t, 0, 1, SKEIN_KIND_REGULAR, "table", 5, NULL, NULL), 3);
+	expect("create", skeinrabbit_create(t, 0, 2, SKEIN_KIND_REGULAR, "feed", 4, NULL, NULL), 4);
 	expect("create_ruleset", skeinrabbit_create_ruleset(t, &attr, sizeof(attr), 0), 0);
 	expect("add_path_rule", skeinrabbit_add_path_rule(t, 0, 1, cal_rights, 0), 0);
 	expect("add_path_rule", skeinrabbit_add_path_rule(t, 0, 2, WORKED, 0), 0);
@@ -248,15 +248,15 @@ static void denied_reports(struct skein_tables *t)
 	worked_tree(t, SKEIN_FS_READ_FILE);
 	expect("access", skeinrabbit_access(t, 0, 1, all, &r), -SKEIN_EACCES);
 	expect_report("access", &r, 1, WORKED & ~SKEIN_FS_READ_FILE);
-	expect("create", skeinrabbit_create(t, 0, 1, SKEIN_KIND_REGULAR, "new", 3, &r), -SKEIN_EACCES);
+	expect("create", skeinrabbit_create(t, 0, 1, SKEIN_KIND_REGULAR, "new", 3, NULL, &r), -SKEIN_EACCES);
 	expect_report("create", &r, 1, SKEIN_FS_MAKE_REG);
-	expect("remove", skeinrabbit_remove(t, 0, 3, &r), -SKEIN_EACCES);
+	expect("remove", skeinrabbit_remove(t, 0, 3, NULL, &r), -SKEIN_EACCES);
 	expect_report("remove", &r, 1, SKEIN_FS_REMOVE_FILE);
-	expect("link", skeinrabbit_link(t, 0, 4, 1, "new", 3, &r), -SKEIN_EACCES);
+	expect("link", skeinrabbit_link(t, 0, 4, 1, "new", 3, NULL, &r), -SKEIN_EACCES);
 	expect_report("link", &r, 1, SKEIN_FS_MAKE_REG);
-	expect("rename", skeinrabbit_rename(t, 0, 4, 1, "table", 5, &r), -SKEIN_EACCES);
+	expect("rename", skeinrabbit_rename(t, 0, 4, 1, "table", 5, NULL, &r), -SKEIN_EACCES);
 	expect_report("rename", &r, 1, SKEIN_FS_MAKE_REG | SKEIN_FS_REMOVE_FILE);
-	expect("exchange", skeinrabbit_exchange(t, 0, 3, 2, 4, &r), -SKEIN_EACCES);
+	expect("exchange", skeinrabbit_exchange(t, 0, 3, 2, 4, NULL, &r), -SKEIN_EACCES);
 	expect_report("exchange", &r, 1, SKEIN_FS_MAKE_REG | SKEIN_FS_REMOVE_FILE);
 	second_layer(t, 0, SKEIN_NET_CONNECT_TCP);
 	expect("port", skeinrabbit_port(t, 0, 80, SKEIN_NET_BIND_TCP | SKEIN_NET_CONNECT_TCP, &r), -SKEIN_EACCES);
@@ -271,12 +271,12 @@ static void other_reports(struct skein_tables *t)
 	struct skein_report r = { 9, 9, 9 };
 
 	worked_tree(t, WORKED & ~SKEIN_FS_WRITE_FILE);
-	expect("rename, a right gained", skeinrabbit_rename(t, 0, 3, 2, "table", 5, &r), -SKEIN_EXDEV);
+	expect("rename, a right gained", skeinrabbit_rename(t, 0, 3, 2, "table", 5, NULL, &r), -SKEIN_EXDEV);
 	expect_report("rename, a right gained", &r, 1, SKEIN_FS_WRITE_FILE);
 	second_layer(t, SKEIN_FS_EXECUTE, 0);
-	expect("rename, REFER denied", skeinrabbit_rename(t, 0, 3, 2, "table", 5, &r), -SKEIN_EXDEV);
+	expect("rename, REFER denied", skeinrabbit_rename(t, 0, 3, 2, "table", 5, NULL, &r), -SKEIN_EXDEV);
 	expect_report("rename, REFER denied", &r, 2, SKEIN_FS_REFER);
-	expect("rename, no entry", skeinrabbit_rename(t, 0, 9, 2, "table", 5, &r), -SKEIN_ENOENT);
+	expect("rename, no entry", skeinrabbit_rename(t, 0, 9, 2, "table", 5, NULL, &r), -SKEIN_ENOENT);
 	expect_report("rename, no entry", &r, 0, 0);
 	expect("rename: entries read", (int64_t)r.entries_read, 0);
 	r.layer = r.rights = 9;
@@ -652,6 +652,94 @@ static void limits(struct skein_tables *t)
 	expect("its number + 1", (int64_t)t->threads[1], SKEIN_MAX_DOMAIN_LAYERS + 1);
 }
 
+/* The bytes of a change of each sort: 1 /cal, 2 /cal/table, 3 /twin, a link of it. */
+static const uint8_t changes[] = {
+	SKEIN_LOG_CREATE,   6, 0, SKEIN_KIND_DIRECTORY, 0, 0, 'c', 'a', 'l',           /* 0 */
+	SKEIN_LOG_CREATE,   8, 0, SKEIN_KIND_REGULAR,	1, 0, 't', 'a', 'b', 'l', 'e', /* 9 */
+	SKEIN_LOG_LINK,	    8, 0, 2, 0, 0, 0, 't', 'w', 'i', 'n',                      /* 20 */
+	SKEIN_LOG_RENAME,   7, 0, 2, 0, 1, 0, 'o', 'l', 'd',                           /* 31 */
+	SKEIN_LOG_EXCHANGE, 6, 0, 1, 0, 0, 0, 4, 0,                                    /* 41 */
+	SKEIN_LOG_REMOVE,   2, 0, 3, 0,                                                /* 50 */
+};
+
+static void logged_calls(struct skein_tables *t, struct skein_log *log)
+{
+	expect("create", skeinrabbit_create(t, 0, SKEIN_ROOT, SKEIN_KIND_DIRECTORY, "cal", 3, log, NULL), 1);
+	expect("create", skeinrabbit_create(t, 0, 1, SKEIN_KIND_REGULAR, "table", 5, log, NULL), 2);
+	expect("link", skeinrabbit_link(t, 0, 2, SKEIN_ROOT, "twin", 4, log, NULL), 3);
+	expect("rename, the name alone", skeinrabbit_rename(t, 0, 2, 1, "old", 3, log, NULL), 0);
+	expect("rename, nothing changes", skeinrabbit_rename(t, 0, 2, SKEIN_ROOT, "twin", 4, log, NULL), 0);
+	expect("create, taken", skeinrabbit_create(t, 0, 1, SKEIN_KIND_REGULAR, "old", 3, log, NULL), -SKEIN_EEXIST);
+	expect("its bytes", (int64_t)log->used, 41);
+	expect("create, no log", skeinrabbit_create(t, 0, SKEIN_ROOT, SKEIN_KIND_REGULAR, "feed", 4, NULL, NULL), 4);
+	expect("its bytes", (int64_t)log->used, 41);
+	expect("exchange", skeinrabbit_exchange(t, 0, 1, SKEIN_ROOT, 4, log, NULL), 0);
+	expect("exchange, nothing changes", skeinrabbit_exchange(t, 0, 2, SKEIN_ROOT, 3, log, NULL), 0);
+	expect("remove", skeinrabbit_remove(t, 0, 3, log, NULL), 0);
+	expect("its bytes", (int64_t)log->used, sizeof(changes));
+	expect("the log", memcmp(log->bytes, changes, sizeof(changes)), 0);
+	expect("a byte behind it", log->bytes[sizeof(changes)], 0xee);
+}
+
+static void full_log(struct skein_tables *t, uint8_t *room)
+{
+	struct skein_log log = { room, 15, 5 };
+	struct skein_report r = { 9, 9, 9 };
+
+	expect("create, no room", skeinrabbit_create(t, 0, SKEIN_ROOT, SKEIN_KIND_REGULAR, "files", 5, &log, &r), -SKEIN_ENOSPC);
+	expect("its report", (int64_t)(r.layer + r.rights + r.entries_read), 0);
+	expect("create, taken and no room", skeinrabbit_create(t, 0, SKEIN_ROOT, SKEIN_KIND_REGULAR, "cal", 3, &log, NULL), -SKEIN_EEXIST);
+	expect("no byte", (int64_t)log.used, 5);
+	expect("create", skeinrabbit_create(t, 0, SKEIN_ROOT, SKEIN_KIND_REGULAR, "file", 4, &log, NULL), 3);
+	expect("all bytes", (int64_t)log.used, 15);
+	expect("rename, no room", skeinrabbit_rename(t, 0, 3, SKEIN_ROOT, "f", 1, &log, NULL), -SKEIN_ENOSPC);
+	expect("rename, nothing changes", skeinrabbit_rename(t, 0, 3, SKEIN_ROOT, "file", 4, &log, NULL), 0);
+	log.used = 16;
+	expect("remove, used past the end", skeinrabbit_remove(t, 0, 3, &log, NULL), -SKEIN_ENOSPC);
+	expect("rename, the same", skeinrabbit_rename(t, 0, 3, SKEIN_ROOT, "file", 4, &log, NULL), 0);
+	log.used = UINT64_MAX;
+	expect("remove, used past all", skeinrabbit_remove(t, 0, 3, &log, NULL), -SKEIN_ENOSPC);
+	expect("it stays", log.used == UINT64_MAX, 1);
+}
+
+static void replayed(struct skein_tables *t)
+{
+	static struct skein_tables start;
+	static uint8_t room[sizeof(changes)];
+	size_t size;
+
+	expect("fresh", skeinrabbit_fresh(&start, SKEIN_MAX_LEVEL), 0);
+	*t = start;
+	expect("replay, no bytes", skeinrabbit_replay(t, NULL, 9), 0);
+	expect("replay, an entry that is not there", skeinrabbit_replay(t, changes, sizeof(changes)), -SKEIN_EBADMSG);
+	expect("no cell", memcmp(t, &start, sizeof(start)), 0);
+	for (size = 31; size < 41; size++) {
+		*t = start;
+		expect("replay, cut", skeinrabbit_replay(t, changes, size), (int64_t)size - 31);
+		expect("lookup", skeinrabbit_lookup(t, "/cal/table", 10), 2);
+	}
+	memcpy(room, changes, 41);
+	*t = start;
+	expect("replay, the room in place of the log", skeinrabbit_replay(t, room, sizeof(room)), -SKEIN_EBADMSG);
+	expect("no cell", memcmp(t, &start, sizeof(start)), 0);
+	expect("replay", skeinrabbit_replay(t, room, 41), 0);
+	expect("lookup", skeinrabbit_lookup(t, "/cal/old", 8), 2);
+	t->threads[0] = 2;
+	expect("replay, tables not sound", skeinrabbit_replay(t, NULL, 0), -SKEIN_EIO);
+}
+
+static void logs(struct skein_tables *t)
+{
+	static uint8_t room[128];
+	struct skein_log log = SKEIN_EMPTY_LOG(room);
+
+	memset(room, 0xee, sizeof(room));
+	expect("fresh", skeinrabbit_fresh(t, SKEIN_MAX_LEVEL), 0);
+	logged_calls(t, &log);
+	full_log(t, room);
+	replayed(t);
+}
+
 int main(void)
 {
 	struct skein_tables *const t = &tables;
@@ -663,9 +751,9 @@ int main(void)
 	expect("fresh, level 0", skeinrabbit_fresh(t, 0), 0);
 	expect("create_ruleset, level 0", skeinrabbit_create_ruleset(t, NULL, 24, 0), -SKEIN_EOPNOTSUPP);
 	expect("fresh", skeinrabbit_fresh(t, SKEIN_MAX_LEVEL), 0);
-	expect("create", skeinrabbit_create(t, 0, SKEIN_ROOT, SKEIN_KIND_DIRECTORY, "cal", 3, NULL), 1);
-	expect("create", skeinrabbit_create(t, 0, 1, SKEIN_KIND_REGULAR, "table", 5, NULL), 2);
-	expect("create", skeinrabbit_create(t, 0, SKEIN_ROOT, SKEIN_KIND_REGULAR, "feed", 4, NULL), 3);
+	expect("create", skeinrabbit_create(t, 0, SKEIN_ROOT, SKEIN_KIND_DIRECTORY, "cal", 3, NULL, NULL), 1);
+	expect("create", skeinrabbit_create(t, 0, 1, SKEIN_KIND_REGULAR, "table", 5, NULL, NULL), 2);
+	expect("create", skeinrabbit_create(t, 0, SKEIN_ROOT, SKEIN_KIND_REGULAR, "feed", 4, NULL, NULL), 3);
 	names(t);
 	paths(t);
 	components();
@@ -685,6 +773,7 @@ int main(void)
 	batch(t);
 	policy_files(t);
 	written_policy(t);
+	logs(t);
 	limits(t);
 	return differences == 0 ? 0 : 1;
 }

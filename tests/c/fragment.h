@@ -19,6 +19,9 @@ struct connection {
 
 extern struct skein_tables tables, before;
 extern struct skein_queue queue;
+extern struct skein_log changes;
+extern uint64_t kept;
+extern int log_fd;
 extern struct connection *connection, *connections;
 extern size_t client_count;
 extern const uint64_t *policies;

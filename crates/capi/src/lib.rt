@@ -34,9 +34,12 @@ ghost use Rattle.named.specs.Named.{namedOutcome, namedCall, lift, liftCount, l
 ghost use Rattle.named.specs.Slices.{before, after};
 ghost use Rattle.named.specs.Queue.{answerOf, turnNamed};
 ghost use Rattle.named.specs.Batch.{batchOf, batchNamed};
-ghost use Rattle.named.specs.Tree.{createNamed, removeNamed, linkNamed, renameNamed, exchangeNamed};
 ghost use Rattle.named.specs.Write.{writeNamed, writtenOut};
 ghost use Rattle.path.specs.Span.{shownStart};
+ghost use Rattle.log.specs.Changes.{create, remove, link, rename, exchange};
+ghost use Rattle.log.specs.Replay.{replayNamed};
+ghost use Rattle.log.specs.Logged.{loggedOutcome, loggedLog};
+ghost use Rattle.log_calls.specs.Logs.{logOf};
 ghost use Rattle.capi.specs.Codes.{Answers, Tells, TellsAccess, FindsPolicy, AppliesPolicy, Posts, spanFrom};
 
 fn span_from(layers: &[u64], cells: usize, l: u64, code: u64) -> usize
@@ -442,11 +445,14 @@ pub extern "C" fn skein_create(
     d: u64,
     k: u64,
     name: &[u8],
+    log: &mut [u8],
+    used: &mut u64,
     report: &mut [u64],
 ) -> u64
-    ensures { λ answer. ⌜ Tells answer (after system entries rulesets layers pool threads names) (now (report .entry)) (now (report .exit)) (createNamed (before system entries rulesets layers pool threads names) t d k (now (name .entry))) ⌝ }
+    ensures answer { λ answer. ⌜ Tells answer (after system entries rulesets layers pool threads names) (now (report .entry)) (now (report .exit)) (loggedOutcome (before system entries rulesets layers pool threads names) (logOf (now (log .entry)) (now (used .entry))) t (create k d (now (name .entry)))) ⌝ }
+    ensures log { λ answer. ⌜ logOf (now (log .exit)) (now (used .exit)) ≡ loggedLog (before system entries rulesets layers pool threads names) (logOf (now (log .entry)) (now (used .entry))) t (create k d (now (name .entry))) ⌝ }
 {
-    let reply = syscalls_tree::create(
+    let reply = syscalls_log_tree::create(
         system,
         entries,
         rulesets,
@@ -458,6 +464,8 @@ pub extern "C" fn skein_create(
         d,
         k,
         name,
+        log,
+        used,
     );
     report_denial(report, reply);
     number(reply)
@@ -474,11 +482,14 @@ pub extern "C" fn skein_remove(
     names: &mut [u8],
     t: u64,
     e: u64,
+    log: &mut [u8],
+    used: &mut u64,
     report: &mut [u64],
 ) -> u64
-    ensures { λ answer. ⌜ Tells answer (after system entries rulesets layers pool threads names) (now (report .entry)) (now (report .exit)) (removeNamed (before system entries rulesets layers pool threads names) t e) ⌝ }
+    ensures answer { λ answer. ⌜ Tells answer (after system entries rulesets layers pool threads names) (now (report .entry)) (now (report .exit)) (loggedOutcome (before system entries rulesets layers pool threads names) (logOf (now (log .entry)) (now (used .entry))) t (remove e)) ⌝ }
+    ensures log { λ answer. ⌜ logOf (now (log .exit)) (now (used .exit)) ≡ loggedLog (before system entries rulesets layers pool threads names) (logOf (now (log .entry)) (now (used .entry))) t (remove e) ⌝ }
 {
-    let reply = syscalls_tree::remove(
+    let reply = syscalls_log_tree::remove(
         system,
         entries,
         rulesets,
@@ -488,6 +499,8 @@ pub extern "C" fn skein_remove(
         names,
         t,
         e,
+        log,
+        used,
     );
     report_denial(report, reply);
     number(reply)
@@ -506,11 +519,14 @@ pub extern "C" fn skein_link(
     s: u64,
     d: u64,
     name: &[u8],
+    log: &mut [u8],
+    used: &mut u64,
     report: &mut [u64],
 ) -> u64
-    ensures { λ answer. ⌜ Tells answer (after system entries rulesets layers pool threads names) (now (report .entry)) (now (report .exit)) (linkNamed (before system entries rulesets layers pool threads names) t s d (now (name .entry))) ⌝ }
+    ensures answer { λ answer. ⌜ Tells answer (after system entries rulesets layers pool threads names) (now (report .entry)) (now (report .exit)) (loggedOutcome (before system entries rulesets layers pool threads names) (logOf (now (log .entry)) (now (used .entry))) t (link s d (now (name .entry)))) ⌝ }
+    ensures log { λ answer. ⌜ logOf (now (log .exit)) (now (used .exit)) ≡ loggedLog (before system entries rulesets layers pool threads names) (logOf (now (log .entry)) (now (used .entry))) t (link s d (now (name .entry))) ⌝ }
 {
-    let reply = syscalls_moves::link(
+    let reply = syscalls_log_link::link(
         system,
         entries,
         rulesets,
@@ -522,6 +538,8 @@ pub extern "C" fn skein_link(
         s,
         d,
         name,
+        log,
+        used,
     );
     report_denial(report, reply);
     number(reply)
@@ -540,11 +558,14 @@ pub extern "C" fn skein_rename(
     s: u64,
     d: u64,
     name: &[u8],
+    log: &mut [u8],
+    used: &mut u64,
     report: &mut [u64],
 ) -> u64
-    ensures { λ answer. ⌜ Tells answer (after system entries rulesets layers pool threads names) (now (report .entry)) (now (report .exit)) (renameNamed (before system entries rulesets layers pool threads names) t s d (now (name .entry))) ⌝ }
+    ensures answer { λ answer. ⌜ Tells answer (after system entries rulesets layers pool threads names) (now (report .entry)) (now (report .exit)) (loggedOutcome (before system entries rulesets layers pool threads names) (logOf (now (log .entry)) (now (used .entry))) t (rename s d (now (name .entry)))) ⌝ }
+    ensures log { λ answer. ⌜ logOf (now (log .exit)) (now (used .exit)) ≡ loggedLog (before system entries rulesets layers pool threads names) (logOf (now (log .entry)) (now (used .entry))) t (rename s d (now (name .entry))) ⌝ }
 {
-    let reply = syscalls_moves::rename(
+    let reply = syscalls_log_moves::rename(
         system,
         entries,
         rulesets,
@@ -556,6 +577,8 @@ pub extern "C" fn skein_rename(
         s,
         d,
         name,
+        log,
+        used,
     );
     report_denial(report, reply);
     number(reply)
@@ -574,11 +597,14 @@ pub extern "C" fn skein_exchange(
     s: u64,
     d: u64,
     x: u64,
+    log: &mut [u8],
+    used: &mut u64,
     report: &mut [u64],
 ) -> u64
-    ensures { λ answer. ⌜ Tells answer (after system entries rulesets layers pool threads names) (now (report .entry)) (now (report .exit)) (exchangeNamed (before system entries rulesets layers pool threads names) t s d x) ⌝ }
+    ensures answer { λ answer. ⌜ Tells answer (after system entries rulesets layers pool threads names) (now (report .entry)) (now (report .exit)) (loggedOutcome (before system entries rulesets layers pool threads names) (logOf (now (log .entry)) (now (used .entry))) t (exchange s d x)) ⌝ }
+    ensures log { λ answer. ⌜ logOf (now (log .exit)) (now (used .exit)) ≡ loggedLog (before system entries rulesets layers pool threads names) (logOf (now (log .entry)) (now (used .entry))) t (exchange s d x) ⌝ }
 {
-    let reply = syscalls_moves::exchange(
+    let reply = syscalls_log_moves::exchange(
         system,
         entries,
         rulesets,
@@ -590,9 +616,27 @@ pub extern "C" fn skein_exchange(
         s,
         d,
         x,
+        log,
+        used,
     );
     report_denial(report, reply);
     number(reply)
+}
+
+#[no_mangle]
+pub extern "C" fn skein_replay(
+    system: &mut [u64],
+    entries: &mut [u64],
+    rulesets: &[u64],
+    layers: &[u64],
+    pool: &[u64],
+    threads: &[u64],
+    names: &mut [u8],
+    log: &[u8],
+) -> u64
+    ensures { λ answer. ⌜ Answers answer (after system entries rulesets layers pool threads names) (replayNamed (before system entries rulesets layers pool threads names) (now (log .entry))) ⌝ }
+{
+    number(syscalls_replay::replay(system, entries, rulesets, layers, pool, threads, names, log))
 }
 
 // `span` receives the first pool cell of the layer's rules and their number of cells.

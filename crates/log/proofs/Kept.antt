@@ -23,7 +23,7 @@ SoundAfter : Named → Replayed → Type 0
 SoundAfter N (Applied S n) = namedSound (withTree N S) ≡ true
 SoundAfter N Faulty = Unit {0}
 
-one-kept : (N : Named) (S : Tree) (c : Change) → namedSound (withTree N S) ≡ true → fits S c ≡ true → namedSound (withTree N (changed S c)) ≡ true
+pub one-kept : (N : Named) (S : Tree) (c : Change) → namedSound (withTree N S) ≡ true → fits S c ≡ true → namedSound (withTree N (changed S c)) ≡ true
 unfolding fits
 one-kept N S c h f =
     let b = tree-back N S h in

@@ -1,2 +1,2 @@
--- What the code of the fields answers and leaves.
+-- What the code of the fields answers.
 pub mod Seen

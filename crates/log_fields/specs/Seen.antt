@@ -1,10 +1,9 @@
--- What the code answers of a value, as the definition's, and what a log's bytes are after more are written.
+-- What the code answers of a value, as the definition's.
 use mathlib.Core.List.{List}
 use Prim.Native.Nat.{ℕ}
 use lib.ListN.{drop}
 use Rattle.log.specs.Changes.{Read, Listed, create, remove, link, rename, exchange}
 use Rattle.log.specs.Changes as log
-use Rattle.log.specs.Logged.{append}
 use Rattle.log_fields.specs.declared.Seen.{Seen}
 use Rattle.log_fields.specs.declared.Seen.the-variants.{Create, Remove, Link, Rename, Exchange, Unlisted}
 
@@ -16,6 +15,3 @@ changeOf (Link s d) v = Listed (link s d (drop 4 v))
 changeOf (Rename s d) v = Listed (rename s d (drop 4 v))
 changeOf (Exchange s d x) v = Listed (exchange s d x)
 changeOf Unlisted v = log.Unlisted
-
-unfoldable pub bytesAfter : List ℕ → ℕ → List ℕ → List ℕ
-bytesAfter bs used f = append (record { bytes = bs; used = used }) f .bytes

@@ -1,9 +1,9 @@
-// The fields of the log: a value read as a change, and bytes written behind the used part.
+// The fields of the log: a value read as a change.
 ghost use mathlib.Core.Path.{_≡_};
-ghost use Prim.Native.Nat.{_+_, _*_, _≤_, _<_};
+ghost use Prim.Native.Nat.{_+_, _*_, _<_};
 ghost use lib.ListN.{length, getD};
 ghost use Rattle.log.specs.Changes.{link, rename, readCreate, readRemove, readMove, readExchange, readValue, readField};
-ghost use Rattle.log_fields.specs.Seen.{changeOf, bytesAfter};
+ghost use Rattle.log_fields.specs.Seen.{changeOf};
 
 pub const CREATE_TAG: u8 = 16;
 
@@ -26,18 +26,6 @@ pub enum Seen {
     Rename(u64, u64),
     Exchange(u64, u64, u64),
     Unlisted,
-}
-
-// Writes bytes behind the used part of a log. There is room for them.
-pub fn append_bytes(log: &mut [u8], used: usize, f: &[u8])
-    requires { ⌜ used + length (now f) ≤ length (now log) ⌝ }
-    ensures { λ r. ⌜ now (log .exit) ≡ bytesAfter (now (log .entry)) used (now (f .entry)) ⌝ }
-{
-    let mut k = 0;
-    while k < f.len() {
-        log[used + k] = f[k];
-        k += 1;
-    }
 }
 
 // Two bytes of a value, little-endian.

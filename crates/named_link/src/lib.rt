@@ -16,7 +16,7 @@ ghost use Rattle.named.specs.Slices.{before, after};
 ghost use Rattle.named.specs.Tree.{linkNamedChecks, newNames};
 
 // `e` is the lowest free entry.
-fn link_checks(
+pub fn link_checks(
     system: &[u64],
     entries: &[u64],
     rulesets: &[u64],

@@ -25,7 +25,7 @@ ghost use Rattle.named.specs.Slices.{before, after};
 ghost use Rattle.named.specs.Tree.{replacedBy, renameNamedChecks, renamedNames, swappedNames};
 
 // `x` is the entry that bears the name in the directory, or none.
-fn rename_checks(
+pub fn rename_checks(
     system: &[u64],
     entries: &[u64],
     rulesets: &[u64],

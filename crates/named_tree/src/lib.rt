@@ -22,7 +22,7 @@ ghost use Rattle.named.specs.Slices.{before, after};
 ghost use Rattle.named.specs.Tree.{createNamedChecks, newNames};
 
 // `e` is the lowest free entry.
-fn create_checks(
+pub fn create_checks(
     system: &[u64],
     entries: &[u64],
     rulesets: &[u64],

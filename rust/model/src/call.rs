@@ -1,6 +1,7 @@
 //! Calls as values, and whatever answers them.
 
 use crate::batch::Batch;
+use crate::log::{field, other_tree, Log};
 use crate::names::component;
 use crate::policy::write::{cells_of, Writing};
 use crate::policy::Wanted;
@@ -208,10 +209,38 @@ impl Reply {
     }
 }
 
-/// Something that answers calls on tables of any length and contents, and keeps a queue, answers
-/// batches, reads and writes policy files as the model does unless it says otherwise.
+/// Something that answers calls on tables of any length and contents, and keeps a log and a queue,
+/// answers batches, reads and writes policy files as the model does unless it says otherwise.
 pub trait Broker {
+    /// Answers a call; one that changes the tree has a log with room.
     fn answer(&mut self, tables: &mut Tables, call: &Call) -> Reply;
+
+    /// Answers a call; one that changes the tree has this log.
+    fn answer_logged(&mut self, tables: &mut Tables, log: &mut Log, call: &Call) -> Reply {
+        let Some(field) = field(call) else {
+            return self.answer(tables, call);
+        };
+        let before = tables.clone();
+        let reply = self.answer(tables, call);
+        if !other_tree(tables, &before) || log.append(&field) {
+            return reply;
+        }
+        *tables = before;
+        Reply::of(Err(Refusal::NoLogRoom), call.report_of([0; 3]))
+    }
+
+    /// Makes the changes of a log's written bytes; answers as a call does.
+    fn replay(&mut self, tables: &mut Tables, log: &[u8]) -> u64 {
+        let answer = match check(tables) {
+            Ok(mut model) => {
+                let answer = model.replay(log);
+                encode_into(&model, tables);
+                answer
+            }
+            Err(_) => Err(Refusal::NotSound),
+        };
+        returned(answer)
+    }
 
     /// Posts a request in a slot; answers as a call does.
     fn post(&mut self, queue: &mut QueueCells, slot: u64, request: Request) -> u64 {

@@ -5,6 +5,8 @@ use crate::batch::{asked, Batch};
 use crate::call::{Broker, Call, Reply};
 use crate::damage::{pokes, undo, Poke};
 use crate::generate::{access_request, call, every_call, Mix};
+use crate::log::history::History;
+use crate::log::{field, made, Log};
 use crate::odd::{random_cells, wrong_lengths, Odd};
 use crate::policy::write::Writing;
 use crate::policy::{files, trees, Wanted};
@@ -16,7 +18,7 @@ use crate::refusal::Answer;
 use crate::start::start;
 use crate::state::{Model, LAST_LEVEL};
 use crate::tables::{encode, Table, Tables};
-use crate::tally::Tally;
+use crate::tally::{Room, Tally};
 use random::Random;
 use std::time::{Duration, Instant};
 
@@ -35,6 +37,9 @@ pub enum Step {
     FindPolicy(Wanted),
     ApplyPolicy(Wanted),
     WritePolicy(Writing),
+    /// Another log for the calls that change the tree.
+    Log(Log),
+    Replay(Vec<u8>),
 }
 
 impl Step {
@@ -47,12 +52,13 @@ impl Step {
             Step::FindPolicy(_) => Some("find_policy"),
             Step::ApplyPolicy(_) => Some("apply_policy"),
             Step::WritePolicy(_) => Some("write_policy"),
-            Step::Damage(_) | Step::Resize { .. } => None,
+            Step::Replay(_) => Some("replay"),
+            Step::Damage(_) | Step::Resize { .. } | Step::Log(_) => None,
         }
     }
 }
 
-/// A list of steps from given sound tables and a fresh queue.
+/// A list of steps from given sound tables, a fresh queue and an empty log.
 #[derive(Clone, PartialEq, Eq, Debug)]
 pub struct Case {
     pub start: Model,
@@ -86,13 +92,16 @@ pub struct Difference {
     pub model: Reply,
     pub cells: Vec<CellDifference>,
     pub queue: Vec<QueueDifference>,
+    /// The broker's log and the model's, if they differ.
+    pub logs: Option<[Log; 2]>,
 }
 
-/// A broker over tables and a queue of its own, and the model.
+/// A broker over tables, a queue and a log of its own, and the model.
 struct Pair<'a, B> {
     broker: &'a mut B,
     tables: Tables,
     queue: QueueCells,
+    log: Log,
     reference: Reference,
     steps: usize,
 }
@@ -103,13 +112,14 @@ impl<B: Broker> Pair<'_, B> {
             broker,
             tables: encode(start),
             queue: QueueCells::fresh(),
+            log: Log::plenty(),
             reference: Reference::new(start),
             steps: 0,
         }
     }
 
     /// Takes a step on both sides; answers the model's answer to a call, a post, a turn, a batch, a name in policy
-    /// files or a file to write, and how the sides differ.
+    /// files, a file to write or a replay, and how the sides differ.
     fn take(&mut self, step: &Step) -> (Option<Answer>, Option<Difference>) {
         self.steps += 1;
         match step {
@@ -151,12 +161,30 @@ impl<B: Broker> Pair<'_, B> {
                 let (answer, difference) = self.compared(broker, answered);
                 return (Some(answer), difference);
             }
+            Step::Log(log) => {
+                self.log = log.clone();
+                self.reference.set_log(log);
+            }
+            Step::Replay(log) => {
+                let (answer, difference) = self.replay(log);
+                return (Some(answer), difference);
+            }
         }
         (None, None)
     }
 
+    fn replay(&mut self, log: &[u8]) -> (Answer, Option<Difference>) {
+        let broker = Reply {
+            number: self.broker.replay(&mut self.tables, log),
+            report: Vec::new(),
+        };
+        let answer = self.reference.replay(log);
+        self.compared(broker, (answer, Vec::new()))
+    }
+
     fn call(&mut self, call: &Call) -> (Answer, Option<Difference>) {
-        let broker = self.broker.answer(&mut self.tables, call);
+        let (tables, log) = (&mut self.tables, &mut self.log);
+        let broker = self.broker.answer_logged(tables, log, call);
         let answered = self.reference.answer(call);
         self.compared(broker, answered)
     }
@@ -167,14 +195,16 @@ impl<B: Broker> Pair<'_, B> {
         self.compared(broker, answered)
     }
 
-    /// The model's answer, and how the broker's reply or its tables differ.
+    /// The model's answer, and how the broker's reply, its tables or its log differ.
     fn compared(
         &self,
         broker: Reply,
         (answer, report): (Answer, Vec<u64>),
     ) -> (Answer, Option<Difference>) {
         let model = Reply::of(answer, report);
-        if broker == model && self.tables == *self.reference.tables() {
+        let logs = [&self.log, self.reference.log()];
+        let logs = (logs[0] != logs[1]).then(|| logs.map(Log::clone));
+        if broker == model && self.tables == *self.reference.tables() && logs.is_none() {
             return (answer, None);
         }
         let difference = Difference {
@@ -183,6 +213,7 @@ impl<B: Broker> Pair<'_, B> {
             model,
             cells: cell_differences(&self.tables, self.reference.tables()),
             queue: Vec::new(),
+            logs,
         };
         (answer, Some(difference))
     }
@@ -210,6 +241,7 @@ impl<B: Broker> Pair<'_, B> {
             model,
             cells: Vec::new(),
             queue: queue_differences(&self.queue, self.reference.queue()),
+            logs: None,
         };
         (answer, Some(difference))
     }
@@ -254,7 +286,7 @@ pub fn sweep<B: Broker>(broker: &mut B, seed: u64, tally: &mut Tally) -> Option<
     let lengths =
         (0..=LAST_LEVEL).flat_map(|level| (0..=LONGEST).map(move |length| (level, length)));
     for (level, length) in lengths {
-        let mut session = Session::new(broker, Model::fresh(level), Mix::Every, [0; 4]);
+        let mut session = Session::new(broker, Model::fresh(level), Mix::Every, [0; 5]);
         for (filling, call) in attributes::calls(level, length, &mut random) {
             tally.count_attribute(filling, level, length);
             if session.take(tally, Step::Call(call)).is_some() {
@@ -270,7 +302,7 @@ pub fn sweep<B: Broker>(broker: &mut B, seed: u64, tally: &mut Tally) -> Option<
 pub fn sweep_files<B: Broker>(broker: &mut B, tally: &mut Tally) -> Option<Case> {
     let swept = files::sweep();
     for (place, level) in [6, 4, 3, 1, 6].into_iter().enumerate() {
-        let mut session = Session::new(broker, files::worked_tree(level), Mix::Every, [0; 4]);
+        let mut session = Session::new(broker, files::worked_tree(level), Mix::Every, [0; 5]);
         for wanted in swept.iter().skip(place).step_by(5) {
             if session.files(tally, wanted).is_some() {
                 return Some(session.case);
@@ -296,7 +328,7 @@ pub fn sweep_written<B: Broker>(broker: &mut B, seed: u64, tally: &mut Tally) ->
             .flat_map(|writing| trees::rooms(&model, writing));
         for writing in rooms.chain(asked.iter().cloned()) {
             // Each is a case of its own: nothing changes.
-            let mut session = Session::new(broker, model.clone(), Mix::Every, [0; 4]);
+            let mut session = Session::new(broker, model.clone(), Mix::Every, [0; 5]);
             if session.take(tally, Step::WritePolicy(writing)).is_some() {
                 return Some(session.case);
             }
@@ -312,6 +344,8 @@ pub struct Options {
     pub seconds: Option<u64>,
     /// Whether rulesets of policy files are found and applied, and written, between the calls.
     pub policies: bool,
+    /// Whether logs change and are replayed between the calls.
+    pub logs: bool,
 }
 
 /// Drives both sides through random cases; answers a case in which they differ.
@@ -325,6 +359,7 @@ pub fn compare<B: Broker>(broker: &mut B, options: &Options, tally: &mut Tally) 
         batch_random: Random::new(options.seed.rotate_left(32)),
         policy_random: Random::new(options.seed.rotate_left(16)),
         write_random: Random::new(options.seed.rotate_left(48)),
+        log_random: Random::new(options.seed.rotate_left(24)),
         last_call: tally.calls.saturating_add(options.calls),
         tally,
         deadline,
@@ -341,7 +376,11 @@ pub fn compare<B: Broker>(broker: &mut B, options: &Options, tally: &mut Tally) 
             ),
             false => (0, 0),
         };
-        let mut session = Session::new(broker, start, mix, [queue, batch, policy, write]);
+        let log = match options.logs {
+            true => run.log_random.pick(&[0, 5, 25]),
+            false => 0,
+        };
+        let mut session = Session::new(broker, start, mix, [queue, batch, policy, write, log]);
         if session.play(&mut run).is_some() {
             return Some(session.case);
         }
@@ -356,10 +395,12 @@ struct Run<'a> {
     queue_random: Random,
     /// Batches, too.
     batch_random: Random,
-    /// And policy files.
+    /// Policy files,
     policy_random: Random,
     /// And those that are written.
     write_random: Random,
+    /// And logs.
+    log_random: Random,
     tally: &'a mut Tally,
     /// The calls counted when it ends.
     last_call: u64,
@@ -383,19 +424,25 @@ struct Session<'a, B> {
     policy: u64,
     /// The chance of a policy file that is written before the next call, in a hundred.
     write: u64,
+    /// The chance of another log or of a replay before the next call, in a hundred.
+    log: u64,
+    /// What happened since the log was empty, if the log is unbroken.
+    history: Option<History>,
     pair: Pair<'a, B>,
     case: Case,
 }
 
 impl<B: Broker> Session<'_, B> {
-    fn new(broker: &mut B, start: Model, mix: Mix, chances: [u64; 4]) -> Session<'_, B> {
-        let [queue, batch, policy, write] = chances;
+    fn new(broker: &mut B, start: Model, mix: Mix, chances: [u64; 5]) -> Session<'_, B> {
+        let [queue, batch, policy, write, log] = chances;
         Session {
             mix,
             queue,
             batch,
             policy,
             write,
+            log,
+            history: (log > 0).then(|| History::new(&start)),
             pair: Pair::new(broker, &start),
             case: Case {
                 start,
@@ -446,13 +493,18 @@ impl<B: Broker> Session<'_, B> {
         let same_object = self.on_one_object(&step);
         let turn = step == Step::Queue(Event::Turn);
         let served = turn.then(|| self.pair.reference.next_answer()).flatten();
+        let log = self.pair.reference.log();
+        let (used, end) = (log.used, log.bytes.len() as u64);
         let (answer, difference) = self.pair.take(&step);
+        self.keep_history(&step, answer);
         match (&step, answer) {
             (Step::Call(call), Some(answer)) => {
                 tally.count(call, answer);
                 if same_object && answer.is_ok() {
                     tally.count_same_object(call);
                 }
+                let logged = self.pair.reference.log().used != used;
+                tally.count_room(call, answer, Room { used, end, logged });
             }
             (Step::Queue(event), Some(answer)) => {
                 tally.count_event(event, answer, served);
@@ -468,6 +520,7 @@ impl<B: Broker> Session<'_, B> {
             (Step::WritePolicy(writing), Some(answer)) => {
                 tally.count_written(writing, answer, self.pair.reference.model().ok());
             }
+            (Step::Replay(log), Some(answer)) => tally.count_replay(log, answer),
             _ => {}
         }
         self.case.steps.push(step);
@@ -496,12 +549,95 @@ impl<B: Broker> Session<'_, B> {
         object(source) == object(entry)
     }
 
+    /// Follows the log: a history begins with an empty one and ends with what breaks it.
+    fn keep_history(&mut self, step: &Step, answer: Option<Answer>) {
+        let reference = &self.pair.reference;
+        match (step, reference.model()) {
+            _ if self.log == 0 => {}
+            (Step::Log(log), Ok(model)) if log.used == 0 => {
+                self.history = Some(History::new(model));
+            }
+            (Step::Log(_) | Step::Damage(_) | Step::Resize { .. }, _) => self.history = None,
+            (Step::Replay(_) | Step::Call(Call::Fresh { .. }), _) => {
+                self.history
+                    .take_if(|_| answer.is_some_and(|answer| answer.is_ok()));
+            }
+            (Step::Call(_), Ok(model)) => {
+                if let Some(history) = &mut self.history {
+                    history.note(reference.log().written().len(), model);
+                }
+            }
+            _ => {}
+        }
+    }
+
     fn random_call(&mut self, run: &mut Run) -> Option<Difference> {
         let call = match self.pair.reference.model() {
             Ok(model) => call(model, self.mix, &mut run.random),
             Err(_) => call(&self.case.start, Mix::Every, &mut run.random),
         };
-        self.take(run.tally, Step::Call(call))
+        let Some(field) = field(&call).filter(|_| run.log_random.chance(self.log)) else {
+            return self.take(run.tally, Step::Call(call));
+        };
+        let tight = made::tight(field.len(), &mut run.log_random);
+        self.take(run.tally, Step::Log(tight));
+        let difference = self.take(run.tally, Step::Call(call));
+        if difference.is_none() && run.log_random.chance(90) {
+            self.take(run.tally, Step::Log(Log::plenty()));
+        }
+        difference
+    }
+
+    /// A replay of a random log or of the log so far onto the tables as they are, or of the latter onto those that it
+    /// started from.
+    fn replay(&mut self, run: &mut Run) -> Option<Difference> {
+        let log = match run.log_random.below(10) {
+            0..=2 => return self.replay_unbroken(run),
+            3 => self.cut_log(run),
+            _ => {
+                let model = self.pair.reference.model();
+                let model = model.unwrap_or(&self.case.start);
+                made::replayed(model, &mut run.log_random)
+            }
+        };
+        let difference = self.take(run.tally, Step::Replay(log));
+        if difference.is_none() && self.history.is_none() {
+            self.take(run.tally, Step::Log(Log::plenty()));
+        }
+        difference
+    }
+
+    /// The log so far, perhaps cut.
+    fn cut_log(&self, run: &mut Run) -> Vec<u8> {
+        let mut log = self.pair.reference.log().written().to_vec();
+        if run.log_random.chance(60) {
+            log.truncate(run.log_random.below(log.len() as u64 + 1) as usize);
+        }
+        log
+    }
+
+    /// Puts the tables back to where the log was empty and replays it, perhaps cut, if it is unbroken.
+    fn replay_unbroken(&mut self, run: &mut Run) -> Option<Difference> {
+        let history = self.history.as_ref()?;
+        let log = self.cut_log(run);
+        let mut by_model = history.start().clone();
+        let answer = by_model.replay(&log);
+        let (after, dropped) = history.after(log.len());
+        assert_eq!((answer, by_model), (Ok(dropped), after), "{:?}", self.case);
+        run.tally.count_unbroken(&log);
+        let start = encode(history.start());
+        let back = cell_differences(self.pair.reference.tables(), &start).into_iter();
+        let back = back.map(|cell| Poke {
+            table: cell.table,
+            cell: cell.cell,
+            value: cell.model,
+        });
+        self.take(run.tally, Step::Damage(back.collect()));
+        let difference = self.take(run.tally, Step::Replay(log));
+        if difference.is_none() {
+            self.take(run.tally, Step::Log(Log::plenty()));
+        }
+        difference
     }
 
     /// Finds and applies a ruleset, and closes it again: then the tables are as before, and so is the case.
@@ -536,8 +672,14 @@ impl<B: Broker> Session<'_, B> {
         self.take(run.tally, step)
     }
 
-    /// A call, and perhaps a batch, policy files and things that happen to the queue before it.
+    /// A call, and perhaps a replay, a batch, policy files and things that happen to the queue before it.
     fn random_step(&mut self, run: &mut Run) -> Option<Difference> {
+        if run.log_random.chance(self.log) {
+            let difference = self.replay(run);
+            if difference.is_some() {
+                return difference;
+            }
+        }
         if run.write_random.chance(self.write) {
             let model = self.pair.reference.model();
             let model = model.unwrap_or(&self.case.start);
@@ -652,8 +794,8 @@ impl<B: Broker> Session<'_, B> {
             .or_else(|| (0..5).find_map(|_| self.random_step(run)))
     }
 
-    /// Posts a request, takes a turn, asks a batch, finds and applies a ruleset of policy files, writes one and makes every
-    /// call once, with arguments for tables that show a model.
+    /// Posts a request, takes a turn, asks a batch, finds and applies a ruleset of policy files, writes one, replays a
+    /// log and makes every call once, with arguments for tables that show a model.
     fn every_call(&mut self, run: &mut Run, model: &Model, odds: &[Odd]) -> Option<Difference> {
         let post = Event::Post {
             slot: run.queue_random.below(SLOTS as u64),
@@ -668,9 +810,10 @@ impl<B: Broker> Session<'_, B> {
             Step::ApplyPolicy(wanted),
             Step::WritePolicy(writing),
         ];
+        let replay = Step::Replay(made::replayed(model, &mut run.log_random));
         let calls = every_call(model, &mut run.random).into_iter();
         let calls = policies.into_iter().chain(calls.map(Step::Call));
-        let mut steps = events.chain([batch]).chain(calls);
+        let mut steps = events.chain([batch, replay]).chain(calls);
         steps.find_map(|step| {
             run.tally.count_odd(odds, &step);
             self.take(run.tally, step)

@@ -46,6 +46,18 @@ pub fn asked_call(model: &Model, random: &mut Random) -> Call {
     }
 }
 
+/// A random call that may change the tree, for tables that show a model.
+pub fn tree_call(model: &Model, random: &mut Random) -> Call {
+    let mut choose = Choose { model, random };
+    match choose.random.below(10) {
+        0..=2 => choose.create(),
+        3 => choose.remove(),
+        4 | 5 => choose.link(),
+        6 | 7 => choose.rename(),
+        _ => choose.exchange(),
+    }
+}
+
 /// A random call of every name, `fresh` the last.
 pub fn every_call(model: &Model, random: &mut Random) -> Vec<Call> {
     let mut choose = Choose { model, random };

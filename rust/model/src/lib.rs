@@ -4,7 +4,7 @@
 //! The model is [`state`] with the calls in [`rulesets`], [`threads`], [`judge`], [`scopes`], [`tree`]
 //! and [`names`], and what a refused verdict names in [`denial`]; [`tables`] and [`sound`] convert
 //! between it and cells. Many verdicts at once are asked for in a [`batch`]. Beside the tables stands the [`queue`].
-//! Rulesets may come from [`policy`] files, and be written into one.
+//! Rulesets may come from [`policy`] files, and be written into one. Changes of the tree go into a [`log`].
 //! The comparison is [`compare`], fed by [`start`], [`generate`], [`paths`],
 //! [`damage`], [`odd`] and [`attributes`], and by [`long_run`] with very many calls on the same tables; a
 //! difference is made short by [`shrink`] and printed by [`scenario`].
@@ -17,6 +17,7 @@ pub mod damage;
 pub mod denial;
 pub mod generate;
 pub mod judge;
+pub mod log;
 pub mod long_run;
 pub mod names;
 pub mod odd;

@@ -15,8 +15,8 @@ usage: model compare [--seed N] [--calls N] [--seconds N] [--long N]
 
 Drives the proved core and the model through attributes of every length, through policy files with
 every byte changed, through files written of random trees, and through random lists of calls, posts,
-turns, batches and policy files, from random tables and queues, sound and damaged, and compares the
-reply and every cell after every call.
+turns, batches, policy files and replays, from random tables, queues and logs, sound and damaged, and
+compares the reply, every cell and every byte of the log after every call.
 Then threads of the same tables are cloned, restricted and ended very often; there the replies are
 compared after every call and the cells after every 100.
 
@@ -70,6 +70,7 @@ fn options(arguments: &[String]) -> Option<(Options, u64)> {
         calls: calls.unwrap_or(all),
         seconds,
         policies: true,
+        logs: true,
     };
     Some((options, long))
 }

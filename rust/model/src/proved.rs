@@ -2,6 +2,7 @@
 
 use crate::batch::Batch;
 use crate::call::{Broker, Call, Reply};
+use crate::log::{Log, LONGEST_FIELD};
 use crate::policy::write::{cells_of, Writing};
 use crate::policy::Wanted;
 use crate::queue::cells::QueueCells;
@@ -15,9 +16,21 @@ pub struct Core;
 
 impl Broker for Core {
     fn answer(&mut self, tables: &mut Tables, call: &Call) -> Reply {
+        self.answer_logged(tables, &mut Log::empty(LONGEST_FIELD), call)
+    }
+
+    fn answer_logged(&mut self, tables: &mut Tables, log: &mut Log, call: &Call) -> Reply {
         let mut report = call.unwritten_report();
-        let number = core_answer(&mut cells(tables), call, &mut report);
+        let log = &mut skeinrabbit_sys::Log {
+            bytes: &mut log.bytes,
+            used: &mut log.used,
+        };
+        let number = core_answer(&mut cells(tables), call, log, &mut report);
         Reply { number, report }
+    }
+
+    fn replay(&mut self, tables: &mut Tables, log: &[u8]) -> u64 {
+        skeinrabbit_sys::replay(&mut cells(tables), log)
     }
 
     fn post(&mut self, queue: &mut QueueCells, slot: u64, request: Request) -> u64 {
@@ -80,13 +93,30 @@ impl Both {
 
 impl Broker for Both {
     fn answer(&mut self, tables: &mut Tables, call: &Call) -> Reply {
-        let mut by_model = tables.clone();
-        let model = Rereading.answer(&mut by_model, call);
-        let core = Core.answer(tables, call);
+        self.answer_logged(tables, &mut Log::empty(LONGEST_FIELD), call)
+    }
+
+    fn answer_logged(&mut self, tables: &mut Tables, log: &mut Log, call: &Call) -> Reply {
+        let (mut by_model, mut model_log) = (tables.clone(), log.clone());
+        let model = Rereading.answer_logged(&mut by_model, &mut model_log, call);
+        let core = Core.answer_logged(tables, log, call);
         assert_eq!(core, model, "core and model answer differently: {call:?}");
         assert!(
             *tables == by_model,
             "core and model leave other cells: {call:?}"
+        );
+        assert_eq!(*log, model_log, "core and model log differently: {call:?}");
+        core
+    }
+
+    fn replay(&mut self, tables: &mut Tables, log: &[u8]) -> u64 {
+        let mut by_model = tables.clone();
+        let model = Rereading.replay(&mut by_model, log);
+        let core = Core.replay(tables, log);
+        assert_eq!(core, model, "core and model answer differently: {log:?}");
+        assert!(
+            *tables == by_model,
+            "core and model leave other cells: {log:?}"
         );
         core
     }
@@ -187,12 +217,12 @@ fn cells(tables: &mut Tables) -> Cells<'_> {
     }
 }
 
-/// Calls the core's function for each of the calls; listed are those of numbers alone that may change the tables, with `report`
-/// last where they have one.
+/// Calls the core's function for each of the calls; listed are those of numbers alone that may change the tables, with `log` and
+/// `report` last where they have them.
 macro_rules! core_answer {
     (
-        $tables:ident, $call:ident, $report:ident;
-        $($variant:ident $function:ident($($field:ident),*) $($reported:ident)?;)*
+        $tables:ident, $call:ident, $log:ident, $report:ident;
+        $($variant:ident $function:ident($($field:ident),*) $($reported:ident)*;)*
     ) => {
         match *$call {
             Call::CreateRuleset { ref bytes, flags } => {
@@ -214,28 +244,33 @@ macro_rules! core_answer {
                 skeinrabbit_sys::abstract_socket($tables.shared(), thread, target)
             }
             Call::Create { ref name, thread, directory, kind, .. } => {
-                skeinrabbit_sys::create($tables, thread, directory, kind, name, $report)
+                skeinrabbit_sys::create($tables, thread, directory, kind, name, $log, $report)
             }
             Call::Link { ref name, thread, source, directory, .. } => {
-                skeinrabbit_sys::link($tables, thread, source, directory, name, $report)
+                skeinrabbit_sys::link($tables, thread, source, directory, name, $log, $report)
             }
             Call::Rename { ref name, thread, source, directory, .. } => {
-                skeinrabbit_sys::rename($tables, thread, source, directory, name, $report)
+                skeinrabbit_sys::rename($tables, thread, source, directory, name, $log, $report)
             }
             Call::Lookup { ref path } => skeinrabbit_sys::lookup($tables.shared(), path),
             Call::Component { ref path, place, .. } => {
                 skeinrabbit_sys::component(path, place, $report)
             }
             $(Call::$variant { $($field,)* .. } => {
-                skeinrabbit_sys::$function($tables, $($field,)* $($reported)?)
+                skeinrabbit_sys::$function($tables, $($field,)* $($reported),*)
             })*
         }
     };
 }
 
-fn core_answer(tables: &mut Cells, call: &Call, report: &mut [u64]) -> u64 {
+fn core_answer(
+    tables: &mut Cells,
+    call: &Call,
+    log: &mut skeinrabbit_sys::Log,
+    report: &mut [u64],
+) -> u64 {
     core_answer! {
-        tables, call, report;
+        tables, call, log, report;
         Fresh fresh(level);
         CloseRuleset close_ruleset(ruleset);
         AddPathRule add_path_rule(ruleset, entry, rights, flags);
@@ -245,7 +280,7 @@ fn core_answer(tables: &mut Cells, call: &Call, report: &mut [u64]) -> u64 {
         End end(thread);
         SetNoNewPrivs set_no_new_privs(thread);
         SetAdmin set_admin(thread, on);
-        Remove remove(thread, entry) report;
-        Exchange exchange(thread, source, directory, entry) report;
+        Remove remove(thread, entry) log report;
+        Exchange exchange(thread, source, directory, entry) log report;
     }
 }

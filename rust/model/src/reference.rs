@@ -4,6 +4,7 @@ use crate::batch::Batch;
 use crate::call::{Broker, Call, Reply};
 use crate::compare::Step;
 use crate::damage::Poke;
+use crate::log::Log;
 use crate::policy::write::{cells_of, Writing};
 use crate::policy::Wanted;
 use crate::queue::answered;
@@ -14,11 +15,12 @@ use crate::sound::{check, decode, Unsound};
 use crate::state::Model;
 use crate::tables::{encode, encode_into, Table, Tables};
 
-/// The model beside the tables that show it, and a queue.
+/// The model beside the tables that show it, a queue and a log.
 pub struct Reference {
     tables: Tables,
     model: Result<Model, Unsound>,
     queue: QueueCells,
+    log: Log,
 }
 
 impl Reference {
@@ -27,6 +29,7 @@ impl Reference {
             tables: encode(model),
             model: Ok(model.clone()),
             queue: QueueCells::fresh(),
+            log: Log::plenty(),
         }
     }
 
@@ -36,6 +39,10 @@ impl Reference {
 
     pub fn queue(&self) -> &QueueCells {
         &self.queue
+    }
+
+    pub fn log(&self) -> &Log {
+        &self.log
     }
 
     /// The model, or the clause of soundness that the tables break.
@@ -51,7 +58,13 @@ impl Reference {
             Step::Queue(event) => drop(self.queue_event(event)),
             Step::Batch(_) | Step::FindPolicy(_) | Step::WritePolicy(_) => {}
             Step::ApplyPolicy(wanted) => drop(self.apply_policy(wanted)),
+            Step::Log(log) => self.set_log(log),
+            Step::Replay(log) => drop(self.replay(log)),
         }
+    }
+
+    pub fn set_log(&mut self, log: &Log) {
+        self.log = log.clone();
     }
 
     pub fn damage(&mut self, pokes: &[Poke]) {
@@ -115,10 +128,18 @@ impl Reference {
         (answer, cells_of(&out))
     }
 
+    /// What replay of a log's written bytes answers.
+    pub fn replay(&mut self, log: &[u8]) -> Answer {
+        let model = self.model.as_mut().map_err(|_| Refusal::NotSound)?;
+        let answer = model.replay(log);
+        encode_into(model, &mut self.tables);
+        answer
+    }
+
     /// Answers a call and writes every cell anew.
     pub fn answer(&mut self, call: &Call) -> (Answer, Vec<u64>) {
         let answered = match &mut self.model {
-            Ok(model) => model.answer(call),
+            Ok(model) => model.answer_logged(&mut self.log, call),
             Err(_) => call
                 .without_tables()
                 .unwrap_or_else(|| (self.answer_unsound(call), call.report_of([0; 3]))),
@@ -158,6 +179,7 @@ impl Broker for Rereading {
             model: check(tables),
             tables: std::mem::take(tables),
             queue: QueueCells::fresh(),
+            log: Log::plenty(),
         };
         let (answer, report) = reference.answer(call);
         *tables = reference.tables;

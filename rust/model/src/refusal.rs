@@ -210,6 +210,16 @@ refusals! {
     ChosenPathTooLong ENAMETOOLONG;
     /// A file that is longer than the room for it.
     NoRoomForFile ENOSPC;
+    /// The log has no room for the field of a change.
+    NoLogRoom ENOSPC;
+    /// A field of a log has none of the five tags.
+    FieldTag EBADMSG;
+    /// The value of a log's field is none that its tag has.
+    FieldValue EBADMSG;
+    /// The call of a log's field is refused.
+    FieldRefused EBADMSG;
+    /// The call of a log's field changes nothing.
+    FieldIdle EBADMSG;
 }
 
 /// The number a call succeeds with, or why it is refused.

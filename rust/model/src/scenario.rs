@@ -4,6 +4,7 @@ use crate::batch::{Asked, Batch};
 use crate::call::{Call, Reply, UNWRITTEN};
 use crate::compare::{Case, Difference, Step};
 use crate::damage::Poke;
+use crate::log::Log;
 use crate::policy::write::Writing;
 use crate::policy::{File, NotFound, Wanted};
 use crate::queue::event::Event;
@@ -27,9 +28,11 @@ pub fn scenario(case: &Case, difference: &Difference) -> String {
     let names = case.start.names.iter();
     lines.extend(names.map(|(number, name)| format!("poke_name {number} {}", text_word(name))));
     let mut reference = Reference::new(&case.start);
+    lines.extend(difference.logs.as_ref().map(|_| log_line(reference.log())));
     for step in &case.steps {
         lines.extend(step_lines(step, &mut reference));
     }
+    lines.extend(difference.logs.as_ref().map(|_| written_line(&reference)));
     lines.extend(difference_lines(difference));
     lines.join("\n") + "\n"
 }
@@ -69,6 +72,14 @@ fn step_lines(step: &Step, reference: &mut Reference) -> Vec<String> {
             policy_lines("apply_policy", wanted, answer, &word)
         }
         Step::WritePolicy(writing) => vec![writing_line(writing, reference)],
+        Step::Log(log) => {
+            reference.set_log(log);
+            vec![log_line(log)]
+        }
+        Step::Replay(log) => {
+            let answer = answer_word(reference.replay(log));
+            vec![format!("replay bytes={} => {answer}", text_word(log))]
+        }
     }
 }
 
@@ -89,6 +100,20 @@ fn writing_line(writing: &Writing, reference: &Reference) -> String {
         answer_word(answer),
         bytes.unwrap_or_default()
     )
+}
+
+/// The line after which calls have a log; its bytes are zero in a scenario.
+fn log_line(log: &Log) -> String {
+    let room = log.bytes.len();
+    match log.used {
+        0 => format!("log {room}"),
+        used => format!("log {room} {used}"),
+    }
+}
+
+/// The line that reads the log.
+fn written_line(reference: &Reference) -> String {
+    format!("written => {}", reference.log().used)
 }
 
 /// The lines of a name that is asked for in policy files.
@@ -334,10 +359,18 @@ fn difference_lines(difference: &Difference) -> Vec<String> {
             cell.model
         ));
     }
+    if let Some([broker, model]) = &difference.logs {
+        lines.push(format!("# log of the broker: {}", log_text(broker)));
+        lines.push(format!("# log of the model: {}", log_text(model)));
+    }
     if difference.cells.len() > CELLS {
         lines.push(format!("# {} cells differ", difference.cells.len()));
     }
     lines
+}
+
+fn log_text(log: &Log) -> String {
+    format!("used {}, bytes {}", log.used, text_word(&log.bytes))
 }
 
 fn reply_text(reply: &Reply) -> String {

@@ -4,6 +4,7 @@ use crate::batch::{Batch, Sort, REQUEST};
 use crate::call::{Broker, Call};
 use crate::compare::{first_difference, Case, Difference, Step};
 use crate::damage::Poke;
+use crate::log::{Log, UNWRITTEN};
 use crate::names::Name;
 use crate::policy::files::places;
 use crate::policy::write::Writing;
@@ -67,16 +68,18 @@ impl<B: Broker> Shrinker<'_, B> {
         self.case.steps.truncate(self.difference.step + 1);
     }
 
-    /// From tables that aren't fresh, starts as late as possible: at the last sound tables, perhaps with what
-    /// happened to the queue before.
+    /// From tables that aren't fresh, starts as late as possible: at the last sound tables, perhaps with the log there
+    /// or with what happened to the queue before.
     fn start_at_difference(&mut self) {
         if self.case.start == Model::fresh(self.case.start.level) {
             return;
         }
         let mut reference = Reference::new(&self.case.start);
         let mut late = self.case.clone();
+        let mut log = Log::plenty();
         for (number, step) in self.case.steps.iter().enumerate() {
             if let Ok(model) = reference.model() {
+                log = reference.log().clone();
                 late = Case {
                     start: model.clone(),
                     steps: self.case.steps[number..].to_vec(),
@@ -91,9 +94,12 @@ impl<B: Broker> Shrinker<'_, B> {
             steps: queue.chain(&late.steps).cloned().collect(),
             ..late.clone()
         };
-        if !self.differs(late) {
-            self.differs(with_queue);
-        }
+        let with_log = Case {
+            steps: [&[Step::Log(log)], &late.steps[..]].concat(),
+            ..late.clone()
+        };
+        let mut candidates = [late, with_log, with_queue].into_iter();
+        candidates.find(|late| self.differs(late.clone()));
     }
 
     /// Drops items in ever smaller groups while the case still differs.
@@ -168,6 +174,11 @@ impl<B: Broker> Shrinker<'_, B> {
                     simpler.map(Step::ApplyPolicy).collect()
                 }
                 Step::WritePolicy(writing) => simpler_writings(writing),
+                Step::Log(log) => simpler_logs(log).into_iter().map(Step::Log).collect(),
+                Step::Replay(log) => {
+                    let simpler = simpler_fields(log).into_iter();
+                    simpler.map(Step::Replay).collect()
+                }
                 _ => Vec::new(),
             };
             let taken = simpler.into_iter().any(|step| {
@@ -292,32 +303,11 @@ fn simpler_batches(batch: &Batch) -> Vec<Step> {
 /// fewer cells.
 fn simpler_files(wanted: &Wanted) -> Vec<Wanted> {
     let mut simpler = Vec::new();
-    let mut with = |number: usize, file: Vec<u8>| {
-        let mut wanted = wanted.clone();
-        wanted.files[number] = file;
-        simpler.push(wanted);
-    };
     for (number, file) in wanted.files.iter().enumerate() {
-        with(number, Vec::new());
-        let fields = places(file);
-        // A ruleset without its rules has two.
-        for count in [fields.len() / 2, fields.len() / 4, 2, 1] {
-            for range in fields.windows(count + 1) {
-                let (start, end) = (range[0], range[count]);
-                with(number, [&file[..start], &file[end..]].concat());
-            }
-        }
-        for pair in places(file).windows(2) {
-            let value = &file[pair[0] + 3..pair[1]];
-            for length in smaller(value.len() as u64) {
-                let length = length as usize;
-                let bytes = (length as u16).to_le_bytes();
-                let (before, after) = (&file[..=pair[0]], &file[pair[1]..]);
-                with(number, [before, &bytes, &value[..length], after].concat());
-            }
-        }
-        if let [shorter @ .., _] = file.as_slice() {
-            with(number, shorter.to_vec());
+        for file in simpler_fields(file) {
+            let mut wanted = wanted.clone();
+            wanted.files[number] = file;
+            simpler.push(wanted);
         }
     }
     simpler.extend(smaller(wanted.report).map(|report| Wanted {
@@ -343,6 +333,56 @@ fn simpler_writings(writing: &Writing) -> Vec<Step> {
     });
     let simpler = rulesets.chain(names).chain(rooms);
     simpler.map(Step::WritePolicy).collect()
+}
+
+/// A policy file or a log that is empty, without fields or the last byte, or with a shorter value in a field.
+fn simpler_fields(file: &[u8]) -> Vec<Vec<u8>> {
+    let mut simpler = vec![Vec::new()];
+    let fields = places(file);
+    // A ruleset without its rules has two.
+    for count in [fields.len() / 2, fields.len() / 4, 2, 1] {
+        for range in fields.windows(count + 1) {
+            let (start, end) = (range[0], range[count]);
+            simpler.push([&file[..start], &file[end..]].concat());
+        }
+    }
+    for pair in fields.windows(2) {
+        let value = &file[pair[0] + 3..pair[1]];
+        for length in smaller(value.len() as u64) {
+            let length = length as usize;
+            let bytes = (length as u16).to_le_bytes();
+            let (before, after) = (&file[..=pair[0]], &file[pair[1]..]);
+            simpler.push([before, &bytes, &value[..length], after].concat());
+        }
+    }
+    if let [shorter @ .., _] = file {
+        simpler.push(shorter.to_vec());
+    }
+    simpler
+}
+
+/// Logs with a part of the bytes, or with bytes that all are the same.
+fn simpler_logs(log: &Log) -> Vec<Log> {
+    let plain = Log {
+        bytes: vec![UNWRITTEN; log.bytes.len()],
+        used: log.used,
+    };
+    let front = smaller(log.written().len() as u64).filter(|_| log.room() > 0);
+    let front = front.map(|used| Log {
+        bytes: log.bytes[log.used as usize - used as usize..].to_vec(),
+        used,
+    });
+    let back = smaller(log.room()).map(|room| Log {
+        bytes: log.bytes[..(log.used + room) as usize].to_vec(),
+        used: log.used,
+    });
+    let past_end = smaller(log.used).filter(|used| *used > log.bytes.len() as u64);
+    let past_end = past_end.map(|used| Log {
+        used,
+        ..log.clone()
+    });
+    let simpler = [plain].into_iter().chain(front).chain(back);
+    simpler.chain(past_end).collect()
 }
 
 /// A batch without a byte of its names; the names of requests are the same parts, without it.

@@ -4,6 +4,7 @@ use crate::attributes::{Filling, LONGEST};
 use crate::batch::{Batch, Sort, ANSWER};
 use crate::call::Call;
 use crate::compare::Step;
+use crate::log::{field, fields};
 use crate::odd::Odd;
 use crate::policy::met::Met;
 use crate::policy::read::DEEPEST;
@@ -20,7 +21,7 @@ use std::fmt;
 use Refusal::*;
 
 /// The refusals of each call, after the one for tables that aren't sound.
-const REFUSALS: [(&str, &[Refusal]); 28] = [
+const REFUSALS: [(&str, &[Refusal]); 29] = [
     ("fresh", &[WrongLength, UnknownLevel]),
     (
         "create_ruleset",
@@ -122,6 +123,7 @@ const REFUSALS: [(&str, &[Refusal]); 28] = [
             AccessDenied,
             NoFreeEntry,
             NoObjectNumber,
+            NoLogRoom,
         ],
     ),
     (
@@ -132,6 +134,7 @@ const REFUSALS: [(&str, &[Refusal]); 28] = [
             RootNamed,
             AccessDenied,
             DirectoryNotEmpty,
+            NoLogRoom,
         ],
     ),
     (
@@ -152,6 +155,7 @@ const REFUSALS: [(&str, &[Refusal]); 28] = [
             ReferDenied,
             NotContained,
             NoFreeEntry,
+            NoLogRoom,
         ],
     ),
     (
@@ -173,6 +177,7 @@ const REFUSALS: [(&str, &[Refusal]); 28] = [
             DirectoryOverFile,
             FileOverDirectory,
             DirectoryNotEmpty,
+            NoLogRoom,
         ],
     ),
     (
@@ -189,6 +194,7 @@ const REFUSALS: [(&str, &[Refusal]); 28] = [
             ReferDenied,
             NotContained,
             OtherNotContained,
+            NoLogRoom,
         ],
     ),
     ("lookup", &LOOKUP),
@@ -205,6 +211,7 @@ const REFUSALS: [(&str, &[Refusal]); 28] = [
     ),
     ("turn", &[CursorPastEnd, NotEightSlots, UnknownState]),
     ("batch", &[RaggedRequests, UnknownSort, TooFewAnswers]),
+    ("replay", &[FieldTag, FieldValue, FieldRefused, FieldIdle]),
     ("find_policy", &[NoSuchRuleset]),
     (
         "apply_policy",
@@ -283,15 +290,19 @@ const LATER: [Refusal; 4] = [
 /// The calls that tables which aren't sound don't refuse so.
 const WITHOUT_SOUNDNESS: [&str; 6] = ["fresh", "component", "post", "turn", "batch", "find_policy"];
 
-/// The names of posts, turns, batches and policy files.
-const EVENTS: [&str; 6] = [
+/// The names of posts, turns, batches, policy files and replays.
+const EVENTS: [&str; 7] = [
     "post",
     "turn",
     "batch",
     "find_policy",
     "apply_policy",
     "write_policy",
+    "replay",
 ];
+
+/// The calls that change the tree.
+const CHANGING: [&str; 5] = ["create", "remove", "link", "rename", "exchange"];
 
 /// The lengths of reports, in cells, that are to be met with every answer that says something.
 const REPORTS: [u64; 5] = [0, 1, 2, 3, 5];
@@ -334,6 +345,10 @@ pub struct Tally {
     faults: BTreeMap<Faulty, u64>,
     /// Policy files that were written or had no room.
     written: BTreeMap<Met, u64>,
+    /// Calls that change the tree by the room that the log had.
+    rooms: BTreeMap<(&'static str, Fit), u64>,
+    /// Replays by what is said of them.
+    replays: BTreeMap<Replayed, u64>,
     /// Calls with a report by its length.
     reports: BTreeMap<Report, u64>,
     damages: BTreeMap<Unsound, u64>,
@@ -388,6 +403,44 @@ impl Tally {
             let answer = later.map_or(answer, AskedAnswer::LaterRefused);
             *self.asked.entry((asked.sort, answer)).or_default() += 1;
         }
+    }
+
+    /// Counts a call by the room that the log had, if that room is a special one.
+    pub fn count_room(&mut self, call: &Call, answer: Answer, room: Room) {
+        let Some(field) = field(call) else {
+            return;
+        };
+        let Room { used, end, logged } = room;
+        let need = field.len() as u64;
+        let fit = match answer {
+            Ok(_) if logged && used + need == end => Fit::Exact,
+            Ok(_) if !logged && (used > end || need > end - used) => Fit::Idle,
+            Err(NoLogRoom) if used > end => Fit::PastEnd,
+            Err(NoLogRoom) if need == end - used + 1 => Fit::OneShort,
+            _ => return,
+        };
+        *self.rooms.entry((call.name(), fit)).or_default() += 1;
+    }
+
+    /// Counts a replay.
+    pub fn count_replay(&mut self, log: &[u8], answer: Answer) {
+        self.calls += 1;
+        *self.answers.entry(("replay", answer.err())).or_default() += 1;
+        let several = fields(log).0.len() > 1;
+        let replayed = match answer {
+            Ok(dropped) => Replayed::Dropped(dropped.min(4)),
+            Err(refusal) if several => Replayed::RefusedOfSeveral(refusal),
+            Err(_) => return,
+        };
+        *self.replays.entry(replayed).or_default() += 1;
+    }
+
+    /// Counts a replay of an unbroken log onto its starting tables.
+    pub fn count_unbroken(&mut self, log: &[u8]) {
+        let (fields, dropped) = fields(log);
+        let (several, cut) = (fields.len() > 1, dropped > 0);
+        let replayed = Replayed::Unbroken { several, cut };
+        *self.replays.entry(replayed).or_default() += 1;
     }
 
     /// Counts a name that was asked for in policy files.
@@ -483,6 +536,8 @@ impl Tally {
         let faults = faults().filter(|faulty| !self.faults.contains_key(faulty));
         let written = Met::ALL.iter();
         let written = written.filter(|met| !self.written.contains_key(met));
+        let rooms = rooms().filter(|room| !self.rooms.contains_key(room));
+        let replays = replays().filter(|replayed| !self.replays.contains_key(replayed));
         let lines = refusals.map(|(call, refusal)| format!("{call} {}", refusal_text(refusal)));
         lines
             .chain(faults.map(|faulty| fault_text(&faulty)))
@@ -494,6 +549,8 @@ impl Tally {
             .chain(idle)
             .chain(asked.map(|asked| format!("request of a batch, {}", asked_text(asked))))
             .chain(lists.map(|lists| format!("batch with {lists:?}")))
+            .chain(rooms.map(|(call, fit)| format!("{call} with room of the log {fit:?}")))
+            .chain(replays.map(|replayed| format!("replay {replayed:?}")))
             .chain(unbroken.map(|clause| format!("damage {clause:?}")))
             .chain(reports.map(|report| report_text(&report)))
             .chain(odds.map(|(odd, call)| format!("{call} on {odd:?}")))
@@ -528,7 +585,7 @@ fn refusals() -> impl Iterator<Item = (&'static str, Refusal)> {
 /// Each call with a report, with each length and each answer that the report depends on: a success,
 /// a refusal by the verdict, tables that aren't sound.
 fn reports() -> impl Iterator<Item = Report> {
-    const SAID: [Refusal; 7] = [
+    const SAID: [Refusal; 8] = [
         LayerNotInUse,
         AccessDenied,
         ReferDenied,
@@ -536,6 +593,7 @@ fn reports() -> impl Iterator<Item = Report> {
         OtherNotContained,
         NoSuchRuleset,
         RightsNotHandled,
+        NoLogRoom,
     ];
     let reporting = REFUSALS.iter().filter(|(call, refusals)| {
         let saying = ["layer_rules", "component", "find_policy", "apply_policy"];
@@ -594,10 +652,11 @@ impl Lists {
     }
 }
 
-/// Each sort of requests with what it may be answered, by tables that are not sound, too.
+/// Each sort of requests with what it may be answered, by tables that are not sound, too; a batch has no log.
 fn asked() -> impl Iterator<Item = (Sort, AskedAnswer)> {
     Sort::ALL.into_iter().flat_map(|sort| {
         let refusals = refusals().filter(move |(call, _)| *call == sort.name());
+        let refusals = refusals.filter(|(_, refusal)| *refusal != NoLogRoom);
         let answers = refusals.map(|(_, refusal)| match refusal {
             later if LATER.contains(&later) => AskedAnswer::LaterRefused(later),
             before => AskedAnswer::Answered(Some(before)),
@@ -617,7 +676,54 @@ fn asked_text((sort, answer): (Sort, AskedAnswer)) -> String {
     format!("{} {answer}", sort.name())
 }
 
-/// The names of all calls, of posts, turns, batches and policy files.
+/// The log before a call that changes the tree, and whether the call wrote a field.
+pub struct Room {
+    pub used: u64,
+    pub end: u64,
+    pub logged: bool,
+}
+
+/// How a field fits into the log that a call has.
+#[derive(Clone, Copy, PartialEq, Eq, PartialOrd, Ord, Debug)]
+enum Fit {
+    Exact,
+    OneShort,
+    /// The mark lies behind the end.
+    PastEnd,
+    /// There is no room, and none is needed.
+    Idle,
+}
+
+/// The calls that change the tree with each room; only a rename or an exchange may succeed and change nothing.
+fn rooms() -> impl Iterator<Item = (&'static str, Fit)> {
+    let fits = [Fit::Exact, Fit::OneShort, Fit::PastEnd];
+    let needed = CHANGING
+        .into_iter()
+        .flat_map(move |call| fits.map(|fit| (call, fit)));
+    needed.chain([("rename", Fit::Idle), ("exchange", Fit::Idle)])
+}
+
+/// What is said of a replay.
+#[derive(Clone, Copy, PartialEq, Eq, PartialOrd, Ord, Debug)]
+enum Replayed {
+    /// It succeeds, and so many bytes at the tail are dropped, or more of them than three.
+    Dropped(u64),
+    /// One of several fields is refused.
+    RefusedOfSeveral(Refusal),
+    /// An unbroken log onto its starting tables, with several whole fields or fewer, cut within a field or not.
+    Unbroken { several: bool, cut: bool },
+}
+
+fn replays() -> impl Iterator<Item = Replayed> {
+    let dropped = (0..=4).map(Replayed::Dropped);
+    let refused = [FieldTag, FieldValue, FieldRefused, FieldIdle].into_iter();
+    let refused = refused.map(Replayed::RefusedOfSeveral);
+    let both = [true, false];
+    let unbroken = both.map(|several| both.map(|cut| Replayed::Unbroken { several, cut }));
+    dropped.chain(refused).chain(unbroken.into_iter().flatten())
+}
+
+/// The names of all calls, of posts, turns, batches, policy files and replays.
 fn names() -> impl Iterator<Item = &'static str> {
     Call::NAMES.iter().copied().chain(EVENTS)
 }
@@ -648,6 +754,7 @@ impl fmt::Display for Tally {
         self.write_asked(f)?;
         self.write_faults(f)?;
         self.write_written(f)?;
+        self.write_logs(f)?;
         self.write_reports(f)?;
         writeln!(
             f,
@@ -719,6 +826,18 @@ impl Tally {
         )?;
         for (met, count) in &self.written {
             writeln!(f, "    {met:?} {count}")?;
+        }
+        Ok(())
+    }
+
+    fn write_logs(&self, f: &mut fmt::Formatter) -> fmt::Result {
+        writeln!(f, "calls by the room of the log:")?;
+        for ((call, fit), count) in &self.rooms {
+            writeln!(f, "    {call} {fit:?} {count}")?;
+        }
+        writeln!(f, "replays:")?;
+        for (replayed, count) in &self.replays {
+            writeln!(f, "    {replayed:?} {count}")?;
         }
         Ok(())
     }

@@ -492,6 +492,7 @@ fn tables_that_are_not_tested_or_change_are_found() {
         calls: 500_000,
         seconds: None,
         policies: true,
+        logs: false,
     };
     let case = compare(&mut TablesUntested, &options, &mut Tally::default());
     let case = case.expect("no difference found");

@@ -244,6 +244,12 @@ Format (in full: docs/SCENARIO.md)
     turn
     slot SLOT
     fresh_queue
+    log ROOM [USED]
+    log none
+    cut BYTES
+    written
+    restart
+    replay [bytes=TEXT]
     poke_name ENTRY NAME [COUNT]
     poke TABLE CELL VALUE [COUNT STEP RISE]
 
@@ -255,6 +261,10 @@ Format (in full: docs/SCENARIO.md)
   STOCK, SITE: a policy file by its name, from where the scenario stands, its
   bytes=TEXT with the escapes of a NAME, or none for an empty one.
   SLOT: a number; the queue has 0 to 7.
+  log starts a log of changes of the tree, with room for ROOM bytes of which
+  USED are used, and keeps the tables of that moment; restart puts them back.
+  written shows what stands in the log, cut cuts it, and replay makes its
+  changes, or those of some bytes, again and answers how many bytes it dropped.
   TABLE: system entries rulesets layers pool threads names, or of the queue
   requests states answers cursor. COUNT, STEP and RISE make a run of writes: how
   many, how many cells from one to the next, and how much each value is above

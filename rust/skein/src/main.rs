@@ -22,6 +22,7 @@ mod import;
 mod json;
 mod least;
 mod lines;
+mod log;
 mod messages;
 mod named;
 mod outcome;

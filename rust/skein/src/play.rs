@@ -1,15 +1,16 @@
 //! Plays a scenario on the broker.
+use crate::log::{self, Kept};
 use crate::policy::{self, Unread, LONGEST_FILE};
 use crate::scenario::{
-    Answer, AskedCall, Bad, BadLine, Call, FileOperand, Mask, Masks, Names, Operand, Other, Place,
-    Poked, PolicyCall, PolicyReport, QueueCall, Report, RulesetBytes, RulesetCall, Scenario,
-    SlotReport, Space, Statement, Text, ThreadCall, TreeCall,
+    Answer, AskedCall, Bad, BadLine, Call, FileOperand, LogCall, Mask, Masks, Names, Operand,
+    Other, Place, Poked, PolicyCall, PolicyReport, QueueCall, Report, RulesetBytes, RulesetCall,
+    Scenario, SlotReport, Space, Statement, Text, ThreadCall, TreeCall,
 };
 use crate::words::quoted;
 use skeinrabbit::{
     component_range, find_policy, Attribute, Batch, Cells, Entry, Errno, Judged, Layer, Level,
-    PolicyFile, PolicyPart, PolicyRefusal, PortRights, Queue, Refusal, Rights, Rule, Ruleset,
-    Scopes, Slot, SlotState, Table, Tables, Thread, Turn, Verdict,
+    Logged, PolicyFile, PolicyPart, PolicyRefusal, PortRights, Queue, Refusal, Rights, Rule,
+    Ruleset, Scopes, Slot, SlotState, Table, Tables, Thread, Turn, Verdict,
 };
 use std::collections::BTreeMap;
 use std::ffi::OsString;
@@ -21,6 +22,8 @@ use std::path::PathBuf;
 pub struct Player {
     pub tables: Tables,
     queue: Queue,
+    /// The log, if one is kept.
+    log: Option<Kept>,
     pub names: Names,
     /// The line that is played, and its round.
     line: usize,
@@ -42,7 +45,7 @@ pub struct Played<'s> {
     pub report: Option<Report>,
     /// The rules that `layer_rules` gave in it.
     pub rules: Vec<Rule>,
-    /// The part of its path that `component` gave in it, or the policy file that `write_policy` wrote.
+    /// The part of its path that `component` gave in it, the policy file that `write_policy` wrote, or the log that `written` read.
     pub part: Vec<u8>,
     /// What is wrong with policy files, in words, or why none is written.
     pub fault: Option<String>,
@@ -57,7 +60,7 @@ impl Played<'_> {
             part,
             ..
         } = self;
-        let written = matches!(self.answer, Answer::Written(_));
+        let written = matches!(self.answer, Answer::Written(_) | Answer::Count(_));
         !statement.allows(self.answer, self.report)
             || written && !statement.allows_bytes(part, *round)
     }
@@ -194,6 +197,7 @@ impl Player {
         Self {
             tables,
             queue: Queue::new(),
+            log: None,
             names,
             line: 0,
             round: 1,
@@ -238,6 +242,7 @@ impl Player {
             Call::Lookup { path } => (self.lookup(path), None),
             Call::Component { path, place } => self.component(path, *place, &mut part),
             Call::Queue(call) => self.queue_call(call)?,
+            Call::Log(call) => (self.log_call(call, &mut part)?, None),
             Call::Ask { thread, call } => self.ask(thread, call)?,
             Call::Poke { poked, writes } => (self.poke(*poked, writes), None),
             Call::PokeName { first, count, name } => (self.poke_name(*first, *count, name), None),
@@ -422,28 +427,70 @@ impl Player {
         Ok(match call {
             TreeCall::Create { place, kind } => {
                 let (directory, name) = self.place(place)?;
-                made(self.tables.create(thread, directory, *kind, name))
+                made(self.change(|tables| tables.create(thread, directory, *kind, name)))
             }
             TreeCall::Remove { entry } => {
                 let entry = self.entry(entry)?;
-                changed(self.tables.remove(thread, entry))
+                changed(self.change(|tables| tables.remove(thread, entry)))
             }
             TreeCall::Link { source, place } => {
                 let source = self.entry(source)?;
                 let (directory, name) = self.place(place)?;
-                made(self.tables.link(thread, source, directory, name))
+                made(self.change(|tables| tables.link(thread, source, directory, name)))
             }
             TreeCall::Rename { source, place } => {
                 let source = self.entry(source)?;
                 let (directory, name) = self.place(place)?;
-                changed(self.tables.rename(thread, source, directory, name))
+                changed(self.change(|tables| tables.rename(thread, source, directory, name)))
             }
             TreeCall::Exchange { source, other } => {
                 let source = self.entry(source)?;
                 let (directory, entry) = self.other(other)?;
-                changed(self.tables.exchange(thread, source, directory, entry))
+                changed(self.change(|tables| tables.exchange(thread, source, directory, entry)))
             }
         })
+    }
+
+    /// Makes a change of the tree, with the log if one is kept.
+    fn change<T>(&mut self, change: impl FnOnce(&mut Logged) -> T) -> T {
+        match &mut self.log {
+            Some(kept) => change(&mut self.tables.logged(&mut kept.log)),
+            None => change(&mut self.tables.logged(&mut log::of_one_change())),
+        }
+    }
+
+    fn log_call(&mut self, call: &LogCall, part: &mut Vec<u8>) -> Result<Answer, Bad> {
+        match call {
+            LogCall::Start { room, used } => {
+                let (tables, restricted) = (self.tables.clone(), self.restricted.clone());
+                self.log = Some(Kept::new(*room, *used, tables, restricted));
+            }
+            LogCall::End => self.log = None,
+            LogCall::Cut { length } => self.kept()?.log.cut(*length),
+            LogCall::Read => {
+                let log = &self.kept()?.log;
+                part.extend_from_slice(log.written());
+                return Ok(Answer::Count(log.used()));
+            }
+            LogCall::Restart => {
+                let (tables, restricted) = self.kept()?.start();
+                (self.tables, self.restricted) = (tables, restricted);
+            }
+            LogCall::Replay { bytes } => {
+                let bytes = match bytes {
+                    Some(bytes) => bytes.bytes(self.round),
+                    None => self.kept()?.log.written().to_vec(),
+                };
+                let dropped = self.tables.replay(&bytes);
+                return Ok(dropped.map_or_else(Answer::Refused, |n| Answer::Count(count(n))));
+            }
+        }
+        Ok(Answer::Done)
+    }
+
+    fn kept(&mut self) -> Result<&mut Kept, Bad> {
+        let none = || Bad::new("no log", "a line `log ROOM` above");
+        self.log.as_mut().ok_or_else(none)
     }
 
     /// Asks for a verdict, in a batch of one request.

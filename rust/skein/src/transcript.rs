@@ -1,11 +1,12 @@
 //! What `skein run` shows: each call with its answer.
 use crate::json::Json;
 use crate::lines::{broken, Row};
+use crate::log::in_words;
 use crate::paint::Paint;
 use crate::play::{Play, Played};
 use crate::policy::show;
 use crate::scenario::{
-    written, Answer, Call, Mask, PolicyReport, Report, RulesetCall, SlotReport, Space,
+    written, Answer, Call, LogCall, Mask, PolicyReport, Report, RulesetCall, SlotReport, Space,
 };
 use crate::words::{cut, shown};
 use skeinrabbit::{Errno, Layer, Rights, Rule, SlotState};
@@ -95,6 +96,9 @@ pub fn reason(played: &Played) -> Option<String> {
         (Call::Queue(_), Errno::EINVAL) => "there is no such slot",
         (Call::Queue(_), Errno::EAGAIN) => "a request waits in the slot",
         (_, Errno::EIO) => "the tables are not sound",
+        (Call::Log(_), Errno::EBADMSG) => {
+            "a whole field of the log is none that can be made again here"
+        }
         (_, Errno::EAGAIN) => "no free thread",
         (Call::Ruleset(RulesetCall::Restrict { .. }), Errno::EPERM) => {
             "the thread has neither no_new_privs nor admin set"
@@ -253,7 +257,7 @@ fn entries_read(played: &Played) -> Option<String> {
     Some(format!("rules of {read} {noun} read"))
 }
 
-/// What stands below a call: why it was refused, if that differs or a layer did it, and the rules of a layer.
+/// What stands below a call: why it was refused, if that differs or a layer did it, the rules of a layer, and what a log holds.
 fn below(played: &Played) -> Vec<String> {
     let slot = slot_lines(played);
     if !slot.is_empty() {
@@ -267,7 +271,16 @@ fn below(played: &Played) -> Vec<String> {
     let rules = played.rules.iter().map(rule_text);
     let parts = part(played).into_iter().chain(policy_part(played));
     let parts = parts.chain(written_file(played));
+    let parts = parts.chain(log_fields(played));
     why.into_iter().chain(rules).chain(parts).collect()
+}
+
+/// The fields of a log that was read, in words.
+fn log_fields(played: &Played) -> Vec<String> {
+    match played.statement.call {
+        Call::Log(LogCall::Read) => in_words(&played.part),
+        _ => Vec::new(),
+    }
 }
 
 /// The policy file that was written, as text.
@@ -355,9 +368,10 @@ pub fn call_json(played: &Played) -> Json {
     let statement = played.statement;
     let (number, errno) = match played.answer {
         Answer::Done => (Some(0), None),
-        Answer::New(number) | Answer::Found(number) | Answer::Written(number) => {
-            (Some(number), None)
-        }
+        Answer::New(number)
+        | Answer::Found(number)
+        | Answer::Written(number)
+        | Answer::Count(number) => (Some(number), None),
         Answer::Served(slot) => (Some(slot.number()), None),
         Answer::Idle | Answer::State(_) => (None, None),
         Answer::Refused(errno) => (None, Some(errno)),
@@ -412,6 +426,7 @@ pub fn call_json(played: &Played) -> Json {
             }),
         ),
         ("written", Json::option(written_bytes(played), Json::text)),
+        ("log", Json::list(log_fields(played), Json::text)),
     ])
 }
 

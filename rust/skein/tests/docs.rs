@@ -43,13 +43,14 @@ fn blocks(document: &str) -> Vec<Block> {
 }
 
 /// The pages, each with the least numbers of scenarios that are played and of outputs that are compared.
-const PAGES: [(&str, usize, usize); 6] = [
+const PAGES: [(&str, usize, usize); 7] = [
     ("SCENARIO", 4, 4),
     ("EXPLAIN", 0, 3),
     ("WHY", 0, 1),
     ("SEARCH", 0, 2),
     ("DIFF", 1, 3),
     ("LEAST", 0, 1),
+    ("LOG", 1, 0),
 ];
 
 fn page(name: &str) -> Vec<Block> {
@@ -105,7 +106,8 @@ fn play(blocks: &[Block]) -> (usize, usize) {
                 compared += 1;
             }
             "policy" => texts.push(block.text.as_str()),
-            "text" => {}
+            // C is compiled by tests/c/run.
+            "text" | "c" => {}
             other => panic!("line {}: `{other}` is no kind of example", block.line),
         }
     }

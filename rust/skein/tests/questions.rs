@@ -452,7 +452,9 @@ access one /d/f write_file
         let left = (ran.code, ran.out.as_str(), ran.err.as_str());
         assert_eq!(left, (2, "", message));
     }
-    let ran = skein_with(&["least", "-"], format!("{text}fresh 6\n").as_bytes());
-    let message = "skein: -: line 9 starts anew, and no policy lasts so long\n";
-    assert_eq!((ran.code, ran.err.as_str()), (2, message));
+    for (anew, line) in [("fresh 6\n", 9), ("log 9\nrestart\n", 10)] {
+        let ran = skein_with(&["least", "-"], format!("{text}{anew}").as_bytes());
+        let message = format!("skein: -: line {line} starts anew, and no policy lasts so long\n");
+        assert_eq!((ran.code, ran.err), (2, message));
+    }
 }

@@ -958,3 +958,84 @@ fn a_wide_expectation_is_broken_into_lines() {
 ";
     assert_eq!((ran.code, ran.out.as_str()), (1, expected));
 }
+
+const LOGGED: &str = "\
+log 30 => 0
+create main /cal directory -> cal => new 1
+create main /cal/table regular => new 2
+rename main /cal/table /cal/other => ENOSPC
+cut 11 => 0
+written => 11
+restart => 0
+replay => 2
+lookup /cal => 1
+replay
+";
+
+#[test]
+fn a_log_is_shown_and_replayed() {
+    let ran = skein_with(&["run", "-"], LOGGED.as_bytes());
+    let expected = "\
+ 6  written                            11            ok
+        byte 0: create directory in 0, cal
+        byte 9: 2 bytes of a field that is cut
+ 7  restart                            0             ok
+ 8  replay                             2             ok
+ 9  lookup /cal                        1             ok
+10  replay                             EBADMSG       DIFFERS: must succeed
+        EBADMSG: a whole field of the log is none that can be made again here
+10 calls, 9 expectations, 1 differing: line 10
+";
+    assert!(ran.out.ends_with(expected), "{}", ran.out);
+    assert_eq!(ran.code, 1);
+}
+
+#[test]
+fn json_has_what_stands_in_the_log() {
+    let ran = skein_with(&["run", "--json", "-"], LOGGED.as_bytes());
+    let document = json(&ran.out);
+    let calls = document.at("calls").list();
+    assert_eq!(calls[5].at("number").number(), 11);
+    let expected = [
+        "byte 0: create directory in 0, cal",
+        "byte 9: 2 bytes of a field that is cut",
+    ];
+    assert_eq!(calls[5].at("log").texts(), expected);
+    assert_eq!(calls[7].at("number").number(), 2);
+    assert!(calls[7].at("log").list().is_empty());
+}
+
+#[test]
+fn words_about_a_log_need_one() {
+    for line in ["cut 0", "written", "restart", "replay"] {
+        for before in ["fresh 6", "log 9\nlog none"] {
+            let text = format!("{before}\n{line}\n");
+            let ran = skein_with(&["run", "-"], text.as_bytes());
+            assert_eq!(ran.code, 2, "{text}");
+            let found = "found no log; expected a line `log ROOM` above";
+            assert!(ran.err.contains(found), "{text}{}", ran.err);
+        }
+    }
+    let ran = skein_with(&["run", "-"], b"replay bytes=\\x00 => 1\n");
+    assert_eq!(ran.code, 0, "{}", ran.out);
+}
+
+/// Rulesets, layers and threads are those of the start, too; labels keep their numbers.
+#[test]
+fn a_restart_gives_back_every_table() {
+    let text = "\
+create main /cal directory -> cal => new 1
+log 100 => 0
+create_ruleset fs=read_file -> rs => new 0
+set_no_new_privs main => 0
+restrict main rs => 0
+create main /cal/table regular -> table => new 2
+access main table read_file => EACCES
+restart => 0
+replay => 0
+access main table read_file => 0
+restrict main rs => EPERM
+";
+    let ran = skein_with(&["run", "-"], text.as_bytes());
+    assert_eq!(ran.code, 0, "{}{}", ran.out, ran.err);
+}

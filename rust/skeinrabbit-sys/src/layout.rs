@@ -48,6 +48,13 @@ pub const BATCH_ANSWER_WIDTH: usize = 3;
 /// The cells of a report about policy files: the file, a place in it, a length.
 pub const POLICY_REPORT_WIDTH: usize = 3;
 
+/// The bytes of a log's field before its value: the tag, and the length, the lower byte first.
+pub const FIELD_HEAD: usize = 3;
+/// Bytes of the value of a log's field.
+pub const MAX_LOG_VALUE: usize = 64;
+/// The bytes that any field of a log fits in.
+pub const LOG_FIELD_SIZE: usize = FIELD_HEAD + MAX_LOG_VALUE;
+
 /// The bytes of `names`, which has a row for each entry.
 pub const NAMES_SIZE: usize = NAME_WIDTH * MAX_ENTRIES;
 

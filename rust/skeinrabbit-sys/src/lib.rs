@@ -8,11 +8,15 @@
 //! (its number + 1, or 0 for none) and its rights; behind these an access reports how many entries' rules it read. The report about
 //! policy files is the file (0 stock, 1 site), a place in it and a length. Only [`component`], [`post`] and [`find_policy`] take no
 //! tables.
+//!
+//! The changes of the tree take a [`Log`], to which each one that changes an entry or a name is appended as a field: a tag, two bytes of
+//! length, the value. A change whose field has no room is refused with ENOSPC after all its other refusals. A caller that keeps no log
+//! gives that of a [`NoLog`].
 #![no_std]
 
 pub mod layout;
 
-pub use layout::{NAMES_SIZE, SIZES};
+pub use layout::{LOG_FIELD_SIZE, NAMES_SIZE, SIZES};
 
 /// The seven tables, for the calls that may change them.
 pub struct Cells<'a> {
@@ -62,6 +66,44 @@ pub struct QueueCells<'a> {
     pub answers: &'a mut [u64],
     /// The slot that was served last.
     pub cursor: &'a mut u64,
+}
+
+/// A log, for the changes of the tree.
+pub struct Log<'a> {
+    /// Its room.
+    pub bytes: &'a mut [u8],
+    /// How many of these are written. Any number is fine; behind the end there is no room.
+    pub used: &'a mut u64,
+}
+
+/// A log of one change, which is dropped.
+pub struct NoLog {
+    field: [u8; LOG_FIELD_SIZE],
+    used: u64,
+}
+
+impl NoLog {
+    pub fn new() -> Self {
+        Self {
+            field: [0; LOG_FIELD_SIZE],
+            used: 0,
+        }
+    }
+
+    /// The log, empty.
+    pub fn log(&mut self) -> Log<'_> {
+        self.used = 0;
+        Log {
+            bytes: &mut self.field,
+            used: &mut self.used,
+        }
+    }
+}
+
+impl Default for NoLog {
+    fn default() -> Self {
+        Self::new()
+    }
 }
 
 /// The pointer to a table's cells; one to be written through comes from an exclusive slice alone.
@@ -203,49 +245,23 @@ reporting_calls! {
     /// Whether a thread may use a port with the rights.
     port(tables: SharedCells, thread, port, rights),
         skein_port[const const const const const const const];
-    /// Removes an entry.
-    remove(tables: &mut Cells, thread, entry),
-        skein_remove[const mut const const const const mut];
-    /// Exchanges an entry with an entry of a directory.
-    exchange(tables: &mut Cells, thread, source, directory, entry),
-        skein_exchange[const mut const const const const mut];
 }
 
-call! {
-    /// Opens a ruleset from the bytes of its attribute; answers its number.
-    create_ruleset(tables: &mut Cells, bytes: &[u8], flags: u64),
-    skein_create_ruleset[const const mut const const const const]
-    (bytes.as_ptr() => *const u8, bytes.len() => usize, flags => u64)
-}
-
-call! {
-    /// Creates an entry of a kind in a directory, with a name; answers its number.
-    create(tables: &mut Cells, thread: u64, directory: u64, kind: u64, name: &[u8], report: &mut [u64]),
-    skein_create[mut mut const const const const mut]
-    (
-        thread => u64,
-        directory => u64,
-        kind => u64,
-        name.as_ptr() => *const u8,
-        name.len() => usize,
-        report.as_mut_ptr() => *mut u64,
-        report.len() => usize
-    )
-}
-
-/// The calls that put an entry into a directory, with a name.
-macro_rules! moving_calls {
-    ($($(#[$doc:meta])* $name:ident, $export:ident $access:tt;)*) => {
+/// The changes of the tree, whose arguments are numbers and perhaps a name; then come the log and the report.
+macro_rules! changes {
+    ($(
+        $(#[$doc:meta])*
+        $name:ident($($arg:ident),* $(; $text:ident)?), $export:ident $access:tt;
+    )*) => {
         $(call! {
             $(#[$doc])*
-            $name(tables: &mut Cells, thread: u64, source: u64, directory: u64, name: &[u8], report: &mut [u64]),
-            $export $access
+            $name(tables: &mut Cells $(, $arg: u64)* $(, $text: &[u8])?, log: &mut Log, report: &mut [u64]), $export $access
             (
-                thread => u64,
-                source => u64,
-                directory => u64,
-                name.as_ptr() => *const u8,
-                name.len() => usize,
+                $($arg => u64,)*
+                $($text.as_ptr() => *const u8, $text.len() => usize,)?
+                log.bytes.as_mut_ptr() => *mut u8,
+                log.bytes.len() => usize,
+                &mut *log.used => *mut u64,
                 report.as_mut_ptr() => *mut u64,
                 report.len() => usize
             )
@@ -253,11 +269,32 @@ macro_rules! moving_calls {
     };
 }
 
-moving_calls! {
+changes! {
+    /// Creates an entry of a kind in a directory, with a name; answers its number.
+    create(thread, directory, kind; name), skein_create[mut mut const const const const mut];
+    /// Removes an entry.
+    remove(thread, entry), skein_remove[const mut const const const const mut];
     /// Links an entry into a directory, with a name; answers the new entry.
-    link, skein_link[const mut const const const const mut];
+    link(thread, source, directory; name), skein_link[const mut const const const const mut];
     /// Moves an entry to a directory and gives it a name, in place of the entry that bears it there.
-    rename, skein_rename[const mut const const const const mut];
+    rename(thread, source, directory; name), skein_rename[const mut const const const const mut];
+    /// Exchanges an entry with an entry of a directory.
+    exchange(thread, source, directory, entry), skein_exchange[const mut const const const const mut];
+}
+
+call! {
+    /// Makes the changes of the written bytes of a log again, without threads and verdicts; answers how many bytes at their tail are no
+    /// whole field.
+    replay(tables: &mut Cells, log: &[u8]),
+    skein_replay[mut mut const const const const mut]
+    (log.as_ptr() => *const u8, log.len() => usize)
+}
+
+call! {
+    /// Opens a ruleset from the bytes of its attribute; answers its number.
+    create_ruleset(tables: &mut Cells, bytes: &[u8], flags: u64),
+    skein_create_ruleset[const const mut const const const const]
+    (bytes.as_ptr() => *const u8, bytes.len() => usize, flags => u64)
 }
 
 call! {

@@ -70,7 +70,7 @@ fn proved() -> Changes {
 #[test]
 fn tables_are_writable_exactly_where_the_proved_export_writes() {
     let (declared, proved) = (declared(), proved());
-    assert_eq!(declared.len(), 25);
+    assert_eq!(declared.len(), 26);
     for (name, tables) in declared {
         assert_eq!(proved.get(name), Some(&tables), "{name}");
     }
@@ -131,6 +131,32 @@ fn declares(start: &str, end: &str, parameters: &[&str]) {
         .iter()
         .map(|text| declared.find(text).expect(text));
     assert!(places.is_sorted(), "{start}");
+}
+
+#[test]
+fn a_log_is_writable_for_the_changes_of_the_tree_alone() {
+    for (name, numbers, named) in [
+        ("create(", 3, true),
+        ("remove(", 2, false),
+        ("link(", 3, true),
+        ("rename(", 3, true),
+        ("exchange(", 4, false),
+    ] {
+        let mut kinds = vec!["u64,"; numbers];
+        kinds.extend(named.then_some("&[u8],"));
+        kinds.extend(["&mut [u8],", "&mut u64,", "&mut [u64],"]);
+        assert_eq!(proved_kinds(name, 7), kinds, "{name}");
+    }
+    let parameters = [
+        "$text.as_ptr() => *const u8,",
+        "log.bytes.as_mut_ptr() => *mut u8,",
+        "&mut *log.used => *mut u64,",
+        "report.as_mut_ptr() => *mut u64,",
+    ];
+    declares("macro_rules! changes", "\n}", &parameters);
+    assert_eq!(proved_kinds("replay(", 7), ["&[u8],"]);
+    let parameters = ["log.as_ptr() => *const u8,", "log.len() => usize"];
+    declares("skein_replay[", "\n}", &parameters);
 }
 
 #[test]

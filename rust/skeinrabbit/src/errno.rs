@@ -67,11 +67,11 @@ errnos! {
     EISDIR = 21, "a directory";
     EINVAL = 22, "invalid argument";
     EMFILE = 24, "no free ruleset";
-    ENOSPC = 28, "no free entry or object number";
+    ENOSPC = 28, "no free entry or object number, or no room in the log";
     ENAMETOOLONG = 36, "a name or a path is too long";
     ENOTEMPTY = 39, "directory not empty";
     ENOMSG = 42, "empty set of rights";
-    EBADMSG = 74, "a policy file is damaged";
+    EBADMSG = 74, "a policy file or a log is damaged";
     EOPNOTSUPP = 95, "Landlock is disabled";
 }
 

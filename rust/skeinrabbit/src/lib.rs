@@ -169,6 +169,25 @@
 //! # Ok::<(), Errno>(())
 //! ```
 //!
+//! # A log of changes
+//!
+//! The changes of the tree can go into a [`Log`], which a broker keeps in a file: after a crash [`Tables::replay`] makes them again, up to
+//! the last one whose field is whole. docs/LOG.md says how, and examples/log.c is a program.
+//!
+//! ```
+//! use skeinrabbit::{Entry, Errno, Kind, Level, Log, Tables, Thread};
+//!
+//! let mut tables = Tables::new(Level::LATEST)?;
+//! let start = tables.clone();
+//! let mut log = Log::with_capacity(4096);
+//! tables.logged(&mut log).create(Thread::MAIN, Entry::ROOT, Kind::DIRECTORY, "cal")?;
+//!
+//! let mut again = start;
+//! assert_eq!(again.replay(log.written()), Ok(0));
+//! assert_eq!(again, tables);
+//! # Ok::<(), Errno>(())
+//! ```
+//!
 //! # Numbers
 //!
 //! Entries, rulesets, threads, layers, slots, kinds, levels and sets of rights are numbers with a type of their own. Any number may
@@ -201,6 +220,7 @@ mod errno;
 mod io;
 mod kind;
 mod level;
+mod log;
 mod names;
 mod numbers;
 mod policy;
@@ -220,6 +240,7 @@ pub use cells::{Cells, Table};
 pub use errno::Errno;
 pub use kind::Kind;
 pub use level::Level;
+pub use log::{Log, Logged};
 pub use names::{component, component_range, components};
 pub use numbers::{Entry, Layer, Ruleset, Slot, Thread};
 pub use policy_file::{find_policy, PolicyFile, PolicyPart, PolicyRefusal};

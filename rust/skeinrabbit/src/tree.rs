@@ -1,10 +1,9 @@
-//! The calls that change the tree.
+//! The calls that change the tree, without a log.
 use crate::kind::Kind;
 use crate::numbers::{Entry, Thread};
 use crate::refusal::Refusal;
 use crate::rights::AccessFs;
 use crate::tables::Tables;
-use skeinrabbit_sys as sys;
 
 /// # The tree
 ///
@@ -14,6 +13,8 @@ use skeinrabbit_sys as sys;
 /// Where a call names two directories, EACCES comes before EXDEV: EACCES where a layer denies a right that the step needs
 /// (making, removing), EXDEV where only REFER is denied at either directory or the entry would gain a right by the move. With
 /// either the refusal says which layer it is and which rights.
+///
+/// These calls keep no log; those of [`Tables::logged`] do.
 impl Tables {
     /// Creates an entry in a directory and answers its number, the lowest that is free.
     ///
@@ -40,12 +41,7 @@ impl Tables {
         kind: Kind,
         name: impl AsRef<[u8]>,
     ) -> Result<Entry, Refusal<AccessFs>> {
-        let (thread, directory) = (thread.number(), directory.number());
-        let answer = self.change(|tables, report| {
-            let (kind, name) = (kind.number(), name.as_ref());
-            sys::create(tables, thread, directory, kind, name, report)
-        });
-        answer.map(Entry::new)
+        self.unlogged(|tables| tables.create(thread, directory, kind, name))
     }
 
     /// Removes an entry.
@@ -63,9 +59,7 @@ impl Tables {
     /// # Ok::<(), Errno>(())
     /// ```
     pub fn remove(&mut self, thread: Thread, entry: Entry) -> Result<(), Refusal<AccessFs>> {
-        let (thread, entry) = (thread.number(), entry.number());
-        let answer = self.change(|tables, report| sys::remove(tables, thread, entry, report));
-        answer.map(drop)
+        self.unlogged(|tables| tables.remove(thread, entry))
     }
 
     /// Links an entry's object into a directory and answers the new entry, the lowest number that is free.
@@ -91,12 +85,7 @@ impl Tables {
         directory: Entry,
         name: impl AsRef<[u8]>,
     ) -> Result<Entry, Refusal<AccessFs>> {
-        let (source, directory) = (source.number(), directory.number());
-        let answer = self.change(|tables, report| {
-            let (thread, name) = (thread.number(), name.as_ref());
-            sys::link(tables, thread, source, directory, name, report)
-        });
-        answer.map(Entry::new)
+        self.unlogged(|tables| tables.link(thread, source, directory, name))
     }
 
     /// Moves an entry to a directory and gives it a name, in place of the entry that bears the name there. The source keeps its
@@ -126,12 +115,7 @@ impl Tables {
         directory: Entry,
         name: impl AsRef<[u8]>,
     ) -> Result<(), Refusal<AccessFs>> {
-        let (source, directory) = (source.number(), directory.number());
-        let answer = self.change(|tables, report| {
-            let (thread, name) = (thread.number(), name.as_ref());
-            sys::rename(tables, thread, source, directory, name, report)
-        });
-        answer.map(drop)
+        self.unlogged(|tables| tables.rename(thread, source, directory, name))
     }
 
     /// Exchanges an entry with an entry of a directory, names with places. Where both have one object nothing changes.
@@ -159,18 +143,6 @@ impl Tables {
         directory: Entry,
         entry: Entry,
     ) -> Result<(), Refusal<AccessFs>> {
-        let (source, directory) = (source.number(), directory.number());
-        let answer = self.change(|tables, report| {
-            let (thread, entry) = (thread.number(), entry.number());
-            sys::exchange(tables, thread, source, directory, entry, report)
-        });
-        answer.map(drop)
-    }
-
-    fn change(
-        &mut self,
-        call: impl FnOnce(&mut sys::Cells, &mut [u64]) -> u64,
-    ) -> Result<u64, Refusal<AccessFs>> {
-        Refusal::answer(AccessFs::from_bits, |report| call(&mut self.raw(), report))
+        self.unlogged(|tables| tables.exchange(thread, source, directory, entry))
     }
 }

@@ -6,6 +6,7 @@ use crate::measure::{against, differ, line, processor_time, table, Effort};
 use crate::plain::batch::{Batch, Layers, Merged, Quick, Rules, Sorted};
 use crate::requests::{part, Requests, ANSWER_WIDTH, REQUEST_WIDTH};
 use crate::tables::Tables;
+use skeinrabbit_sys::NoLog;
 use std::collections::hash_map::RandomState;
 use std::collections::HashMap;
 
@@ -171,13 +172,15 @@ fn called(tables: &mut Tables, input: &Input, row: &[u64]) -> [u64; ANSWER_WIDTH
         unreachable!("a row has so many cells");
     };
     let name = part(&input.requests.names, from, length);
-    let mut report = [0; 2];
+    let mut cells = [0; 2];
+    let (report, log) = (&mut cells, &mut NoLog::new());
+    let log = &mut log.log();
     let answer = match sort {
-        1 => skeinrabbit_sys::access(tables.shared(), thread, a, b, &mut report),
-        2 => skeinrabbit_sys::port(tables.shared(), thread, a, b, &mut report),
-        3 => skeinrabbit_sys::link(&mut tables.cells(), thread, a, b, name, &mut report),
-        4 => skeinrabbit_sys::rename(&mut tables.cells(), thread, a, b, name, &mut report),
-        _ => skeinrabbit_sys::exchange(&mut tables.cells(), thread, a, b, c, &mut report),
+        1 => skeinrabbit_sys::access(tables.shared(), thread, a, b, report),
+        2 => skeinrabbit_sys::port(tables.shared(), thread, a, b, report),
+        3 => skeinrabbit_sys::link(&mut tables.cells(), thread, a, b, name, log, report),
+        4 => skeinrabbit_sys::rename(&mut tables.cells(), thread, a, b, name, log, report),
+        _ => skeinrabbit_sys::exchange(&mut tables.cells(), thread, a, b, c, log, report),
     };
     let errno = match answer.wrapping_neg() {
         ENOSPC | EISDIR | ENOTEMPTY => 0,
@@ -185,5 +188,5 @@ fn called(tables: &mut Tables, input: &Input, row: &[u64]) -> [u64; ANSWER_WIDTH
         _ if answer <= u64::from(u32::MAX) => 0,
         errno => errno,
     };
-    [errno, report[0], report[1]]
+    [errno, cells[0], cells[1]]
 }

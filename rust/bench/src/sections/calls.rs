@@ -9,6 +9,7 @@ use crate::plain::soundness::{is_sound, Buckets, Pairwise};
 use crate::plain::verdict::rename_verdict;
 use crate::tables::Tables;
 use random::Random;
+use skeinrabbit_sys::NoLog;
 
 /// All calls are those of thread 0, but for ends, which are of thread 1.
 const THREAD: u64 = 0;
@@ -113,7 +114,9 @@ impl Program {
         match self {
             Program::Core => {
                 let (tables, (source, directory, name)) = (&mut tables.cells(), request);
-                skeinrabbit_sys::rename(tables, THREAD, source, directory, name, report)
+                let log = &mut NoLog::new();
+                let log = &mut log.log();
+                skeinrabbit_sys::rename(tables, THREAD, source, directory, name, log, report)
             }
             Program::Plain(broker) => broker.rename(tables, THREAD, request, report),
         }
@@ -123,7 +126,9 @@ impl Program {
         match self {
             Program::Core => {
                 let (tables, (directory, kind, name)) = (&mut tables.cells(), request);
-                skeinrabbit_sys::create(tables, THREAD, directory, kind, name, report)
+                let log = &mut NoLog::new();
+                let log = &mut log.log();
+                skeinrabbit_sys::create(tables, THREAD, directory, kind, name, log, report)
             }
             Program::Plain(broker) => broker.create(tables, THREAD, request, report),
         }
@@ -138,7 +143,11 @@ impl Program {
 
     fn remove(self, tables: &mut Tables, entry: u64, report: &mut Report) -> u64 {
         match self {
-            Program::Core => skeinrabbit_sys::remove(&mut tables.cells(), THREAD, entry, report),
+            Program::Core => {
+                let log = &mut NoLog::new();
+                let (tables, log) = (&mut tables.cells(), &mut log.log());
+                skeinrabbit_sys::remove(tables, THREAD, entry, log, report)
+            }
             Program::Plain(broker) => broker.remove(tables, THREAD, entry, report),
         }
     }

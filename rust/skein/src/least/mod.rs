@@ -9,7 +9,7 @@ use crate::remedy::{
     add, call_text, least as least_rules, missing, NoRule, Refused, Rules, Spot, Tried,
 };
 use crate::request::Request;
-use crate::scenario::{written, Answer, Call, Mask, Scenario, Space, Statement};
+use crate::scenario::{written, Answer, Call, LogCall, Mask, Scenario, Space, Statement};
 use crate::transcript::{counted, mask_json, rights_json};
 use crate::words::quoted;
 use skeinrabbit::{parse_number, Attribute, Errno, Layer, PortRights, Rights, Tables, Thread};
@@ -82,7 +82,9 @@ impl<'s> Trace<'s> {
             return Err(format!("no call with a verdict from line {from} on"));
         }
         let first = chosen.iter().filter_map(|thread| callers.get(thread)).min();
-        let fresh = |line: &&Statement| matches!(line.call, Call::Fresh { .. });
+        let fresh = |line: &&Statement| {
+            matches!(line.call, Call::Fresh { .. } | Call::Log(LogCall::Restart))
+        };
         let mut later = lines.iter().filter(|line| Some(&line.line) >= first);
         if let Some(fresh) = later.find(fresh) {
             let line = fresh.line;

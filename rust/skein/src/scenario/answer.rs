@@ -18,6 +18,8 @@ pub enum Answer {
     Found(u64),
     /// Success, with the number of bytes that were written.
     Written(u64),
+    /// Success, with a number of bytes.
+    Count(u64),
     /// The slot that a turn served.
     Served(Slot),
     /// A turn where no slot waits.
@@ -32,7 +34,9 @@ impl fmt::Display for Answer {
         match self {
             Answer::Done => f.pad("0"),
             Answer::New(number) => f.pad(&format!("new {number}")),
-            Answer::Found(number) | Answer::Written(number) => number.fmt(f),
+            Answer::Found(number) | Answer::Written(number) | Answer::Count(number) => {
+                number.fmt(f)
+            }
             Answer::Served(slot) => slot.fmt(f),
             Answer::Idle => f.pad(IDLE),
             Answer::State(state) => state.fmt(f),
@@ -51,7 +55,7 @@ const STATES: [SlotState; 3] = [SlotState::Empty, SlotState::Waiting, SlotState:
 pub struct Expected {
     pub answer: ExpectedAnswer,
     pub report: ReportWords,
-    /// The bytes of the policy file that it must write.
+    /// The bytes of the policy file that it must write, or of the log that it must find.
     pub bytes: Option<Text>,
 }
 
@@ -162,7 +166,10 @@ impl ExpectedAnswer {
             | (Number(0), Answer::Done)
             | (Idle, Answer::Idle) => true,
             (Number(number) | New(number), Answer::New(made)) => number == made,
-            (Number(number), Answer::Found(found) | Answer::Written(found)) => number == found,
+            (
+                Number(number),
+                Answer::Found(found) | Answer::Written(found) | Answer::Count(found),
+            ) => number == found,
             (Number(number), Answer::Served(slot)) => number == slot.number(),
             (Number(number), Answer::State(state)) => state == SlotState::Unknown(number),
             (State(expected), Answer::State(state)) => expected == state,

@@ -37,6 +37,7 @@ pub enum Call {
         place: u64,
     },
     Queue(QueueCall),
+    Log(LogCall),
     /// Asks for the verdict of a call, and changes nothing.
     Ask {
         thread: Operand,
@@ -69,6 +70,29 @@ pub enum QueueCall {
     /// Reads a slot.
     Slot {
         slot: Slot,
+    },
+}
+
+/// What happens to the log.
+#[derive(Debug, PartialEq, Eq)]
+pub enum LogCall {
+    /// Starts one at the tables of this moment.
+    Start {
+        room: usize,
+        used: u64,
+    },
+    /// Keeps none any more.
+    End,
+    Cut {
+        length: u64,
+    },
+    /// Reads it.
+    Read,
+    /// Puts back the tables that it started from.
+    Restart,
+    /// Makes its changes again, or those of other bytes.
+    Replay {
+        bytes: Option<Text>,
     },
 }
 

@@ -5,6 +5,7 @@ use super::call::{
     AskedCall, Call, FileOperand, Other, Place, PolicyCall, QueueCall, RulesetCall, ThreadCall,
     TreeCall,
 };
+use super::log::{cut, log, replay, restart, written};
 use super::names::{Operand, Space};
 use super::poke::{poke, poke_name};
 use super::report::Sort;
@@ -53,7 +54,9 @@ const LINK: &str = "link THREAD SOURCE DIRECTORY NAME` or `link THREAD SOURCE PA
 const RENAME: &str = "rename THREAD SOURCE DIRECTORY NAME` or `rename THREAD SOURCE PATH";
 const EXCHANGE: &str = "exchange THREAD SOURCE DIRECTORY ENTRY` or `exchange THREAD SOURCE PATH";
 
-static FORMS: [Form; 31] = [
+const LOG: &str = "log ROOM [USED]` or `log none";
+
+static FORMS: [Form; 36] = [
     form("fresh LEVEL", None, fresh),
     form(CREATE_RULESET, Some(Space::Ruleset), create_ruleset),
     form("close_ruleset RULESET", None, close_ruleset),
@@ -106,6 +109,11 @@ static FORMS: [Form; 31] = [
     judged("turn", None, Sort::Slot, turn),
     judged("slot SLOT", None, Sort::Slot, slot),
     form("fresh_queue", None, fresh_queue),
+    form(LOG, None, log),
+    form("cut BYTES", None, cut),
+    judged("written", None, Sort::Written, written),
+    form("restart", None, restart),
+    form("replay [bytes=TEXT]", None, replay),
     form("poke_name ENTRY NAME [COUNT]", None, poke_name),
     form("poke TABLE CELL VALUE [COUNT STEP RISE]", None, poke),
 ];

@@ -4,6 +4,7 @@ mod arguments;
 mod attribute;
 mod call;
 mod forms;
+mod log;
 mod names;
 mod poke;
 mod repeat;
@@ -13,8 +14,8 @@ mod text;
 pub use answer::{Answer, Expected, ExpectedAnswer};
 pub use arguments::{number, value, Named};
 pub use call::{
-    AskedCall, Call, FileOperand, Masks, Other, Place, PolicyCall, QueueCall, RulesetBytes,
-    RulesetCall, ThreadCall, TreeCall,
+    AskedCall, Call, FileOperand, LogCall, Masks, Other, Place, PolicyCall, QueueCall,
+    RulesetBytes, RulesetCall, ThreadCall, TreeCall,
 };
 pub use names::{Names, Operand, Space};
 pub use poke::Poked;

@@ -90,7 +90,7 @@ pub enum Sort {
     Component,
     Slot,
     Policy,
-    /// A policy file that is written; a line says its bytes.
+    /// A policy file or a log that is written; a line says its bytes.
     Written,
 }
 

@@ -366,6 +366,54 @@ fn slots_and_turns_are_read() {
 }
 
 #[test]
+fn logs_are_read() {
+    let read = |line: &str| match statement(line).call {
+        Call::Log(call) => call,
+        other => panic!("{other:?}"),
+    };
+    let (room, used) = (100, 0);
+    assert_eq!(read("log 100"), LogCall::Start { room, used });
+    let used = u64::MAX;
+    assert_eq!(
+        read("log 100 0xffffffffffffffff"),
+        LogCall::Start { room, used }
+    );
+    assert_eq!(read("log none"), LogCall::End);
+    assert_eq!(read("cut 0x10 => 0"), LogCall::Cut { length: 16 });
+    assert_eq!(read("written => 7"), LogCall::Read);
+    assert_eq!(read("restart"), LogCall::Restart);
+    assert_eq!(read("replay => EBADMSG"), LogCall::Replay { bytes: None });
+    let bytes = Some(text("\\x00a"));
+    assert_eq!(read("replay bytes=\\x00a"), LogCall::Replay { bytes });
+    assert!(statement("written => 1 bytes=a")
+        .expected
+        .is_some_and(|read| read.bytes.is_some()));
+    let line = statement("replay => 3");
+    assert!(line.allows(Answer::Count(3), None) && !line.allows(Answer::Count(0), None));
+    assert!(!statement("replay => new").allows(Answer::Count(0), None));
+    for line in [
+        "log",
+        "log 1048577",
+        "log 100 used",
+        "log 100 0 0",
+        "log none 0",
+        "cut",
+        "written 0",
+        "restart now",
+        "replay 7",
+        "replay bytes=",
+        "replay bytes=\\x0",
+        "replay bytes=a b",
+        "replay -> entry",
+        "replay => 0 layer=none",
+        "replay => 0 bytes=a",
+        "written => 1 layer=none",
+    ] {
+        assert!(parse(line.as_bytes()).is_err(), "{line}");
+    }
+}
+
+#[test]
 fn requests_are_read() {
     let ask = |call| Call::Ask {
         thread: name("main"),

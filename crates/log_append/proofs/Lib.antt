@@ -1,0 +1,2 @@
+-- Fields of changes as bytes, and their room.
+pub mod Fields

@@ -1,0 +1,3 @@
+-- Laws for the code of tree calls with a log.
+pub mod Cases
+pub mod Full

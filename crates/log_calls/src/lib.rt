@@ -1,0 +1,1 @@
+// No code: what the code of tree calls with a log comes to, case by case.

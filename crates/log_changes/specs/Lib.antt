@@ -1,0 +1,2 @@
+-- A change tried on a tree, as code tests it.
+pub mod Tried

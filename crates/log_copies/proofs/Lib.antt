@@ -1,0 +1,3 @@
+-- Lists copied whole, and a replay on copies.
+pub mod Copies
+pub mod Whole

@@ -1,0 +1,2 @@
+-- What a replay leaves.
+pub mod Whole

@@ -1,0 +1,2 @@
+-- A step of a replay.
+pub mod Steps

@@ -1,0 +1,2 @@
+-- What a replay answers and leaves.
+pub mod Replays
