@@ -28,7 +28,7 @@
  * - none of these overlap: the tables, a queue, the bytes of an attribute, a name, a path, a policy file or a log, the room for a policy
  *   file, a struct skein_log, a report, the requests, names and verdicts of a batch, and the two places where skeinrabbit_layer_rules and
  *   skeinrabbit_component report. Two policy files may be the same bytes;
- * - 96 KiB of stack are left, for skeinrabbit_batch 1 MiB (docs/PERFORMANCE.md), which a thread or coroutine with a small stack
+ * - 128 KiB of stack are left, for skeinrabbit_batch 1 MiB (docs/PERFORMANCE.md), which a thread or coroutine with a small stack
  *   may not have;
  * - no other call on the same tables or the same queue runs meanwhile, from a thread or from a signal handler. Calls on others may;
  * - the program is for x86-64 Linux, as the archive is.

@@ -526,7 +526,7 @@ pub extern "C" fn skein_link(
     ensures answer { λ answer. ⌜ Tells answer (after system entries rulesets layers pool threads names) (now (report .entry)) (now (report .exit)) (loggedOutcome (before system entries rulesets layers pool threads names) (logOf (now (log .entry)) (now (used .entry))) t (link s d (now (name .entry)))) ⌝ }
     ensures log { λ answer. ⌜ logOf (now (log .exit)) (now (used .exit)) ≡ loggedLog (before system entries rulesets layers pool threads names) (logOf (now (log .entry)) (now (used .entry))) t (link s d (now (name .entry))) ⌝ }
 {
-    let reply = syscalls_log_moves::link(
+    let reply = syscalls_log_link::link(
         system,
         entries,
         rulesets,

@@ -1,15 +1,12 @@
-// The entry points of the calls that link and move entries, with a log: the change of a call goes into the log as a field. A change whose field has no room is
+// The entry points of the calls that move entries, with a log: the change of a call goes into the log as a field. A change whose field has no room is
 // ENOSPC, after the call's own refusals; a call that changes nothing needs no room. A refusal changes no cell, and no byte of the log.
 use access::errno::Reply;
 use log_append::EXCHANGE_FIXED;
-use log_append::LINK_FIXED;
 use log_append::RENAME_FIXED;
 use log_append::append_exchange;
-use log_append::append_link;
 use log_append::append_rename;
 use log_append::has_room;
 use log_full::exchange_full;
-use log_full::link_full;
 use log_full::rename_full;
 use name_bearer::bearer;
 use tree::entries::same_object;
@@ -19,64 +16,9 @@ ghost use Rattle.tree.specs.Entries.{replacing, sameObject};
 ghost use Rattle.names.specs.Names.{bearer};
 ghost use Rattle.named.specs.Named.{namedOutcome};
 ghost use Rattle.named.specs.Slices.{before, after};
-ghost use Rattle.log.specs.Changes.{link, rename, exchange};
+ghost use Rattle.log.specs.Changes.{rename, exchange};
 ghost use Rattle.log.specs.Logged.{loggedOutcome, loggedLog};
 ghost use Rattle.log_calls.specs.Logs.{logOf};
-
-// Links an entry into a directory under a name: EIO, ESRCH, ENOENT, EBUSY, ENOTDIR, ENAMETOOLONG, EINVAL, EEXIST, EPERM, EACCES, EXDEV, ENOSPC. Answers the new
-// entry's number.
-pub fn link(
-    system: &[u64],
-    entries: &mut [u64],
-    rulesets: &[u64],
-    layers: &[u64],
-    pool: &[u64],
-    threads: &[u64],
-    names: &mut [u8],
-    t: u64,
-    s: u64,
-    d: u64,
-    name: &[u8],
-    log: &mut [u8],
-    used: &mut u64,
-) -> Reply
-    ensures reply { λ answer. ⌜ namedOutcome answer (after system entries rulesets layers pool threads names) ≡ loggedOutcome (before system entries rulesets layers pool threads names) (logOf (now (log .entry)) (now (used .entry))) t (link s d (now (name .entry))) ⌝ }
-    ensures log { λ answer. ⌜ logOf (now (log .exit)) (now (used .exit)) ≡ loggedLog (before system entries rulesets layers pool threads names) (logOf (now (log .entry)) (now (used .entry))) t (link s d (now (name .entry))) ⌝ }
-{
-    if !has_room(log, *used, LINK_FIXED, name.len()) {
-        return link_full(
-            system,
-            entries,
-            rulesets,
-            layers,
-            pool,
-            threads,
-            names,
-            t,
-            s,
-            d,
-            name,
-        );
-    }
-    let reply = syscalls_moves::link(
-        system,
-        entries,
-        rulesets,
-        layers,
-        pool,
-        threads,
-        names,
-        t,
-        s,
-        d,
-        name,
-    );
-    if reply.is_refused() {
-        return reply;
-    }
-    append_link(log, used, s, d, name);
-    reply
-}
 
 // The name is already that of an entry of the same object: a rename then changes nothing.
 fn renames_itself(entries: &[u64], names: &[u8], s: u64, d: u64, name: &[u8]) -> bool

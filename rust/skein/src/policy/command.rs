@@ -6,7 +6,7 @@ use crate::messages::bad_lines;
 use crate::scenario::{written, Bad};
 use crate::transcript::counted;
 use crate::words::{escaped, quoted};
-use crate::{Outcome, BAD_INPUT, DIFFERS, UNREADABLE};
+use crate::{with_play, Outcome, BAD_INPUT, DIFFERS, UNREADABLE};
 use skeinrabbit::{find_policy, PolicyFile, PolicyRefusal};
 use std::ffi::{OsStr, OsString};
 use std::fs::File;
@@ -36,9 +36,11 @@ pub fn perform(command: &PolicyCommand) -> Outcome {
         PolicyCommand::Show(file) => fine(file).map(|bytes| show(&bytes)),
         PolicyCommand::Build(text, file) => build_file(text, file),
         PolicyCommand::Find([stock, site, name]) => find(stock, site, name),
-        PolicyCommand::Export(wanted) => Err(crate::with_play(&wanted.scenario, |file, play| {
-            export(file, &play, wanted).unwrap_or_else(|refused| refused)
-        })),
+        PolicyCommand::Export(wanted) => {
+            return with_play(&wanted.scenario, |file, play| {
+                export(file, &play, wanted).unwrap_or_else(|refused| refused)
+            })
+        }
     };
     done.map_or_else(
         |refused| refused,

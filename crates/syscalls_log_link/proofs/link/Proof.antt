@@ -6,8 +6,8 @@ use Rattle.log.specs.Changes.{link, callOf}
 use Rattle.log.specs.Tree.{idle}
 use Rattle.log_calls.proofs.Cases.{logs-full, logs-refused, logs-enters, fits}
 use Rattle.log_append.proofs.Fields.{link-room}
-use Rattle.syscalls_log_moves.proofs.link.Statement.{statement}
-use Rattle.syscalls_log_moves.proofs.link.Tie as tie
+use Rattle.syscalls_log_link.proofs.link.Statement.{statement}
+use Rattle.syscalls_log_link.proofs.link.Tie as tie
 
 pub link-spec : {M : Type 1} → statement M
 unfolding outcomeNamed callOf idle
