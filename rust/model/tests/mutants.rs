@@ -39,6 +39,7 @@ fn first_found<B: Broker>(broker: &mut B, policies: bool) -> (Case, Difference) 
         calls: 500_000,
         seconds: None,
         policies,
+        writes: false,
     };
     let case = compare(broker, &options, &mut Tally::default());
     shortened(broker, case)
@@ -3011,6 +3012,7 @@ fn the_model_does_not_differ_from_itself_and_meets_everything() {
         calls: 80_000,
         seconds: None,
         policies: true,
+        writes: true,
     };
     let mut tally = Tally::default();
     assert_eq!(sweep_written(&mut Rereading, 1, &mut tally), None);
