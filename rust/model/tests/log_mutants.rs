@@ -19,6 +19,7 @@ fn found<B: Broker>(broker: &mut B) -> (Case, Difference, String) {
         calls: 500_000,
         seconds: None,
         policies: false,
+        writes: false,
         logs: true,
     };
     let case = compare(broker, &options, &mut Tally::default()).expect("no difference found");
