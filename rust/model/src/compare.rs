@@ -342,8 +342,10 @@ pub struct Options {
     pub seed: u64,
     pub calls: u64,
     pub seconds: Option<u64>,
-    /// Whether rulesets of policy files are found and applied, and written, between the calls.
+    /// Whether rulesets of policy files are found and applied between the calls.
     pub policies: bool,
+    /// Whether policy files are written between the calls.
+    pub writes: bool,
     /// Whether logs change and are replayed between the calls.
     pub logs: bool,
 }
@@ -369,15 +371,16 @@ pub fn compare<B: Broker>(broker: &mut B, options: &Options, tally: &mut Tally) 
         let mix = run.random.pick(&[Mix::Every, Mix::Tree]);
         let queue = run.queue_random.pick(&[0, 5, 50]);
         let batch = run.batch_random.pick(&[0, 3, 20]);
-        let (policy, write) = match options.policies {
-            true => (
-                run.policy_random.pick(&[0, 5, 25]),
-                run.write_random.pick(&[0, 2, 10]),
-            ),
-            false => (0, 0),
+        let policy = match options.policies {
+            true => run.policy_random.pick(&[0, 5, 25]),
+            false => 0,
+        };
+        let write = match options.writes {
+            true => run.write_random.pick(&[0, 2, 10]),
+            false => 0,
         };
         let log = match options.logs {
-            true => run.log_random.pick(&[0, 5, 25]),
+            true => run.log_random.pick(&[0, 5, 40]),
             false => 0,
         };
         let mut session = Session::new(broker, start, mix, [queue, batch, policy, write, log]);
@@ -472,11 +475,12 @@ impl<B: Broker> Session<'_, B> {
                 self.assert_consistent();
             }
         }
-        match run.random.below(100) {
+        let difference = self.replay_unbroken(run);
+        difference.or_else(|| match run.random.below(100) {
             0..=19 => self.wrong_lengths(run),
             20..=23 => self.random_cells(run),
             _ => None,
-        }
+        })
     }
 
     /// The kept state and the cells must show the same.
@@ -592,8 +596,8 @@ impl<B: Broker> Session<'_, B> {
     /// started from.
     fn replay(&mut self, run: &mut Run) -> Option<Difference> {
         let log = match run.log_random.below(10) {
-            0..=2 => return self.replay_unbroken(run),
-            3 => self.cut_log(run),
+            0..=3 => return self.replay_unbroken(run),
+            4 => self.cut_log(run),
             _ => {
                 let model = self.pair.reference.model();
                 let model = model.unwrap_or(&self.case.start);
@@ -619,6 +623,10 @@ impl<B: Broker> Session<'_, B> {
     /// Puts the tables back to where the log was empty and replays it, perhaps cut, if it is unbroken.
     fn replay_unbroken(&mut self, run: &mut Run) -> Option<Difference> {
         let history = self.history.as_ref()?;
+        // Mostly it waits for several fields.
+        if self.pair.reference.log().used < 40 && run.log_random.chance(90) {
+            return None;
+        }
         let log = self.cut_log(run);
         let mut by_model = history.start().clone();
         let answer = by_model.replay(&log);

@@ -70,6 +70,7 @@ fn options(arguments: &[String]) -> Option<(Options, u64)> {
         calls: calls.unwrap_or(all),
         seconds,
         policies: true,
+        writes: true,
         logs: true,
     };
     Some((options, long))

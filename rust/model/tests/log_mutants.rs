@@ -8,6 +8,7 @@ use model::refusal::{Errno, Refusal};
 use model::scenario::scenario;
 use model::shrink::shrink;
 use model::sound::check;
+use model::state::Model;
 use model::tables::{Table, Tables};
 use model::tally::Tally;
 
@@ -18,6 +19,7 @@ fn found<B: Broker>(broker: &mut B) -> (Case, Difference, String) {
         calls: 500_000,
         seconds: None,
         policies: false,
+        writes: false,
         logs: true,
     };
     let case = compare(broker, &options, &mut Tally::default()).expect("no difference found");
@@ -26,18 +28,27 @@ fn found<B: Broker>(broker: &mut B) -> (Case, Difference, String) {
     (case, difference, text)
 }
 
-/// The call that differs, perhaps with its own log: the last step, with at most one before it.
+/// The step that differs, the last one, with a log before it or with few steps from fresh tables, where shrinking keeps
+/// what prepares it.
+fn last_step<'a>(case: &'a Case, text: &str) -> &'a Step {
+    let fresh = case.start == Model::fresh(case.start.level);
+    let short = if fresh { 6 } else { 2 };
+    assert!(case.steps.len() <= short, "{text}");
+    case.steps.last().expect("a step")
+}
+
+/// The call that differs.
 fn last_call<'a>(case: &'a Case, text: &str) -> &'a Call {
-    match case.steps.as_slice() {
-        [Step::Call(call)] | [Step::Log(_), Step::Call(call)] => call,
+    match last_step(case, text) {
+        Step::Call(call) => call,
         _ => panic!("{text}"),
     }
 }
 
-/// The log whose replay differs, the only step.
+/// The fields whose replay differs.
 fn replayed<'a>(case: &'a Case, text: &str) -> Vec<(u8, &'a [u8])> {
-    match case.steps.as_slice() {
-        [Step::Replay(log)] => fields(log).0,
+    match last_step(case, text) {
+        Step::Replay(log) => fields(log).0,
         _ => panic!("{text}"),
     }
 }
@@ -151,10 +162,8 @@ fn an_idle_rename_that_is_logged_is_found() {
     let call = last_call(&case, &text);
     assert!(matches!(call, Call::Rename { .. }), "{text}");
     assert_eq!(difference.broker, difference.model, "{text}");
-    assert!(
-        text.contains("=> 0 layer=none rights=0\nwritten => 0\n"),
-        "{text}"
-    );
+    let [broker, model] = difference.logs.expect("the same logs");
+    assert!(broker.used > model.used, "{text}");
 }
 
 /// A success that changes nothing is refused where there is no room.
@@ -272,7 +281,8 @@ fn a_sum_that_wraps_is_found() {
             answer
         })
     }));
-    let [Step::Log(log), Step::Call(_)] = case.steps.as_slice() else {
+    last_call(&case, &text);
+    let [.., Step::Log(log), Step::Call(_)] = case.steps.as_slice() else {
         panic!("{text}");
     };
     assert!(log.used > 1 << 63, "{text}");

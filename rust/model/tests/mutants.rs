@@ -39,6 +39,7 @@ fn first_found<B: Broker>(broker: &mut B, policies: bool) -> (Case, Difference) 
         calls: 500_000,
         seconds: None,
         policies,
+        writes: false,
         logs: false,
     };
     let case = compare(broker, &options, &mut Tally::default());
@@ -3012,6 +3013,7 @@ fn the_model_does_not_differ_from_itself_and_meets_everything() {
         calls: 80_000,
         seconds: None,
         policies: true,
+        writes: true,
         logs: true,
     };
     let mut tally = Tally::default();

@@ -491,7 +491,8 @@ fn tables_that_are_not_tested_or_change_are_found() {
         seed: 1,
         calls: 500_000,
         seconds: None,
-        policies: true,
+        policies: false,
+        writes: true,
         logs: false,
     };
     let case = compare(&mut TablesUntested, &options, &mut Tally::default());
