@@ -1,5 +1,5 @@
 /*
- * A tree that survives a pulled plug. One file holds the tables that a start found, and behind them the log of the changes since
+ * A tree that survives a loss of power. One file holds the tables that a start found, and behind them the log of the changes since
  * (docs/LOG.md):
  *
  *     cc -I include examples/log.c target/staticlib/libcapi.a -o log

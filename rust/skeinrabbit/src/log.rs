@@ -24,7 +24,7 @@ use skeinrabbit_sys as sys;
 /// tables.logged(&mut log).rename(Thread::MAIN, cal, Entry::ROOT, "old")?;
 /// assert_eq!(log.written(), b"\x10\x06\x00\x02\x00\x00cal\x13\x07\x00\x01\x00\x00\x00old");
 ///
-/// // The plug was pulled while the second change was written.
+/// // The power failed while the second change was written.
 /// let kept = &log.written()[..15];
 /// let mut again = start.clone();
 /// assert_eq!(again.replay(kept), Ok(6));
@@ -99,7 +99,7 @@ impl<B> Log<B> {
         self.used = 0;
     }
 
-    /// Cuts the log after so many bytes, as a pulled plug may; one that has no more of them stays.
+    /// Cuts the log after so many bytes, as a loss of power may; one that has no more of them stays.
     pub fn cut(&mut self, length: u64) {
         self.used = self.used.min(length);
     }
