@@ -12,7 +12,7 @@ use skeinrabbit_sys as sys;
 
 /// A log of changes of the tree: room for it, and how much of that is written. docs/LOG.md says what stands in it.
 ///
-/// The room is anything that lends bytes: a `Vec<u8>`, an array, or a `&mut [u8]` that stands elsewhere. It does not grow. What is
+/// The room is anything that holds bytes: a `Vec<u8>`, an array, or a `&mut [u8]` that stands elsewhere. It does not grow. What is
 /// written ([`Log::written`]) is what a broker keeps in a file, and what [`Tables::replay`] takes.
 ///
 /// ```

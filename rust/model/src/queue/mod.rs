@@ -1,6 +1,6 @@
 //! Request W14: a queue of eight slots, each of which holds at most one waiting access request.
 //!
-//! [`cells`] are what a caller lends, and [`event`] what happens to them.
+//! [`cells`] are what a caller gives, and [`event`] what happens to them.
 
 pub mod cells;
 pub mod event;
