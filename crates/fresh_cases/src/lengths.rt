@@ -18,6 +18,12 @@ fn all_one(t: &[u64]) -> bool {
     true
 }
 
+fn unchanged(otherwise: &[u8], t: &[u64]) {
+    if !all_one(t) {
+        line(otherwise);
+    }
+}
+
 // Fresh tables asked for at the level, and at one that is too high: a wrong length goes before it.
 fn answers(
     system: &mut [u64],
@@ -56,22 +62,10 @@ pub fn wrong(
         front(&mut threads, threads_cells),
         level,
     );
-    if !all_one(&system) {
-        line(b" system changed");
-    }
-    if !all_one(&entries) {
-        line(b" entries changed");
-    }
-    if !all_one(&rulesets) {
-        line(b" rulesets changed");
-    }
-    if !all_one(&layers) {
-        line(b" layers changed");
-    }
-    if !all_one(&pool) {
-        line(b" pool changed");
-    }
-    if !all_one(&threads) {
-        line(b" threads changed");
-    }
+    unchanged(b" system changed", &system);
+    unchanged(b" entries changed", &entries);
+    unchanged(b" rulesets changed", &rulesets);
+    unchanged(b" layers changed", &layers);
+    unchanged(b" pool changed", &pool);
+    unchanged(b" threads changed", &threads);
 }

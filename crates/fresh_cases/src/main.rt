@@ -32,13 +32,16 @@ fn fresh(level: u64) {
     cells(b" threads", &threads);
 }
 
-fn main() {
+fn levels() {
     line(b"level 6:");
     fresh(6);
     line(b"\nlevel 0:");
     fresh(0);
     line(b"\nlevel 7, right lengths:");
     wrong(4, 3072, 3136, 1792, 3072, 32, 7);
+}
+
+fn first_tables() {
     line(b"\nsystem too short:");
     wrong(3, 3072, 3136, 1792, 3072, 32, 6);
     line(b"\nsystem too long:");
@@ -51,6 +54,9 @@ fn main() {
     wrong(4, 3072, 3135, 1792, 3072, 32, 6);
     line(b"\nrulesets too long:");
     wrong(4, 3072, 3137, 1792, 3072, 32, 6);
+}
+
+fn other_tables() {
     line(b"\nlayers too short:");
     wrong(4, 3072, 3136, 1791, 3072, 32, 6);
     line(b"\nlayers too long:");
@@ -64,4 +70,10 @@ fn main() {
     line(b"\nthreads too long:");
     wrong(4, 3072, 3136, 1792, 3072, 33, 6);
     line(b"\n");
+}
+
+fn main() {
+    levels();
+    first_tables();
+    other_tables();
 }

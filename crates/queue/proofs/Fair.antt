@@ -1,4 +1,4 @@
--- "no waiting seat waits more than eight turns", over any list of posts and turns. The measure: within how many steps the cursor comes to the slot. Assumes nothing.
+-- "no waiting [slot] waits more than eight turns", over any list of posts and turns. The measure: within how many steps the cursor comes to the slot. Assumes nothing.
 use mathlib.Core.Path.{_≡_, refl, sym, ap, _∙_}
 use mathlib.Core.Bool.{Bool, true, false, _||_}
 use mathlib.Core.List.{List, [], _∷_}

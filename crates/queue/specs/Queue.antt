@@ -1,4 +1,4 @@
--- Document 02, W14: a queue of eight slots. What the request calls a "seat" is a slot here, and its "hand" the cursor.
+-- Document 02, W14: a queue of eight slots and a cursor. A word in brackets stands for another one of the request's.
 use mathlib.Core.Bool.{Bool, cond, not}
 use mathlib.Core.List.{List, [], _∷_}
 use Prim.Native.Nat.{ℕ, zero, suc, _*_}
@@ -33,7 +33,7 @@ waiting = 1
 abbrev pub answered : ℕ
 answered = 2
 
--- "a lent list of records with request, state and answer", as parallel lists, and the cursor: the slot served last
+-- "a [borrowed] list of records with request, state and answer", as parallel lists, and the cursor: the slot served last
 pub record Queue : Type 0 where
   pub requests : List ℕ
   pub states : List ℕ
@@ -50,7 +50,7 @@ stateAt ss k = getD ss k 0
 unfoldable pub knownState : List ℕ → ℕ → Bool
 knownState ss k = leb (stateAt ss k) answered
 
--- "EIO for a hand above 7, a list not of eight, or a state not empty, waiting or answered"
+-- "EIO for a [cursor] above 7, a list not of eight, or a state not empty, waiting or answered"
 unfoldable pub queueSound : Queue → Bool
 queueSound Q =
     allOf
@@ -62,7 +62,7 @@ queueSound Q =
     ∷ [])
 
 -- ---- post
--- "a second is EAGAIN, a seat number above 7 EINVAL, and before these .. EIO"
+-- "a second is EAGAIN, a [slot] number above 7 EINVAL, and before these .. EIO"
 unfoldable pub postChecks : Queue → ℕ → List Check
 postChecks Q k = not (queueSound Q) ⇒ EIO ∷ not (ltb k slots) ⇒ EINVAL ∷ eqb (stateAt (Q .states) k) waiting ⇒ EAGAIN ∷ []
 
@@ -93,7 +93,7 @@ unfoldable pub seek : List ℕ → ℕ → ℕ → ℕ
 seek ss zero c = slots
 seek ss (suc n) c = let r = seek ss n (next c) in cond (eqb (stateAt ss (next c)) waiting) (next c) r
 
--- "the next waiting seat after the last one served"
+-- "the next waiting [slot] after the last one served"
 abbrev pub nextWaiting : List ℕ → ℕ → ℕ
 nextWaiting ss c = seek ss slots c
 
@@ -114,7 +114,7 @@ pub record Turned : Type 0 where
 abbrev pub turned : Served → Queue → Turned
 turned r Q = record { said = r; left = Q }
 
--- "Each turn answers the next waiting seat .. and returns its number; with none waiting it says so and changes nothing". f is what the tables answer
+-- "Each turn answers the next waiting [slot] .. and returns its number; with none waiting it says so and changes nothing". f is what the tables answer
 -- at the turn, "EIO for unsound ones included": their EIO is an answer, not the turn's
 unfoldable pub turn : (ℕ → ℕ → ℕ → Answer) → Queue → Turned
 turn f Q =

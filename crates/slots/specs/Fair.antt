@@ -1,4 +1,4 @@
--- Document 02, W14, over records: "While only posts and turns write the queue, no waiting seat waits more than eight turns".
+-- Document 02, W14, over records: "While only posts and turns write the queue, no waiting [slot] waits more than eight turns".
 use mathlib.Core.Path.{_≡_}
 use mathlib.Core.Bool.{true}
 use mathlib.Core.List.{List, [], _∷_}

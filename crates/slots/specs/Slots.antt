@@ -1,4 +1,4 @@
--- Document 02, W14: "The seats are a lent list of records with request, state and answer, and the queue's hand moves on in place".
+-- Document 02, W14: "The [slots] are a [borrowed] list of records with request, state and answer, and the queue's [cursor] moves on in place".
 use mathlib.Core.Bool.{Bool, cond, not}
 use mathlib.Core.List.{List, [], _∷_}
 use Prim.Native.Nat.{ℕ}
