@@ -723,7 +723,7 @@ pub extern "C" fn skein_post(
 ) -> u64
     ensures { λ answer. ⌜ Posts answer (queue (now (requests .exit)) (now (states .exit)) (now (answers .entry)) (now (cursor .exit))) (post (queue (now (requests .entry)) (now (states .entry)) (now (answers .entry)) (now (cursor .entry))) slot thread entry rights) ⌝ }
 {
-    number(queue::post(
+    number(queue_post::post(
         requests,
         states,
         answers,

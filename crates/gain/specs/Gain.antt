@@ -1,4 +1,4 @@
--- Document 02, W14: what "the moved thing (or for an exchange either one) would, if it were moved, hold".
+-- Document 02, W14: what the moved object, or either one of an exchange, "would, if it were moved, hold".
 use mathlib.Core.Bool.{cond}
 use mathlib.Core.List.{List}
 use Prim.Native.Nat.{ℕ}

@@ -14,7 +14,7 @@ use Rattle.queue.specs.declared.Answer.{Answer}
 use Rattle.queue.specs.declared.Served.{Served}
 use Rattle.queue.specs.declared.Served.the-variants.{Slot, Idle, Refused as TurnRefused}
 
--- "eight seats, each holding at most one waiting access request"
+-- "eight [slots], each holding at most one waiting access request"
 abbrev pub slots : ℕ
 slots = 8
 
