@@ -342,8 +342,8 @@ pub struct Options {
     pub seed: u64,
     pub calls: u64,
     pub seconds: Option<u64>,
-    /// Whether rulesets of policy files are found and applied between the calls.
-    pub policies: bool,
+    /// The chances, in a hundred, of policy files before a call, whose rulesets are found and applied: a case has one of them.
+    pub policies: &'static [u64],
     /// Whether policy files are written between the calls.
     pub writes: bool,
     /// Whether logs change and are replayed between the calls.
@@ -371,10 +371,7 @@ pub fn compare<B: Broker>(broker: &mut B, options: &Options, tally: &mut Tally) 
         let mix = run.random.pick(&[Mix::Every, Mix::Tree]);
         let queue = run.queue_random.pick(&[0, 5, 50]);
         let batch = run.batch_random.pick(&[0, 3, 20]);
-        let policy = match options.policies {
-            true => run.policy_random.pick(&[0, 5, 25]),
-            false => 0,
-        };
+        let policy = run.policy_random.pick(options.policies);
         let write = match options.writes {
             true => run.write_random.pick(&[0, 2, 10]),
             false => 0,

@@ -69,7 +69,7 @@ fn options(arguments: &[String]) -> Option<(Options, u64)> {
         seed,
         calls: calls.unwrap_or(all),
         seconds,
-        policies: true,
+        policies: &[0, 5, 25],
         writes: true,
         logs: true,
     };

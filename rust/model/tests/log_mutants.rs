@@ -18,7 +18,7 @@ fn found<B: Broker>(broker: &mut B) -> (Case, Difference, String) {
         seed: 1,
         calls: 500_000,
         seconds: None,
-        policies: false,
+        policies: &[0],
         writes: false,
         logs: true,
     };

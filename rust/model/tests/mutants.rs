@@ -25,15 +25,15 @@ use std::collections::BTreeMap;
 
 /// The first difference that a comparison finds without policy files, made short.
 fn found<B: Broker>(broker: &mut B) -> (Case, Difference) {
-    first_found(broker, false)
+    first_found(broker, &[0])
 }
 
 /// The same with policy files between the calls.
 fn found_with_policies<B: Broker>(broker: &mut B) -> (Case, Difference) {
-    first_found(broker, true)
+    first_found(broker, &[25])
 }
 
-fn first_found<B: Broker>(broker: &mut B, policies: bool) -> (Case, Difference) {
+fn first_found<B: Broker>(broker: &mut B, policies: &'static [u64]) -> (Case, Difference) {
     let options = Options {
         seed: 1,
         calls: 500_000,
@@ -3012,7 +3012,7 @@ fn the_model_does_not_differ_from_itself_and_meets_everything() {
         seed: 1,
         calls: 80_000,
         seconds: None,
-        policies: true,
+        policies: &[0, 5, 25],
         writes: true,
         logs: true,
     };

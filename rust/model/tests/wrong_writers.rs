@@ -491,7 +491,7 @@ fn tables_that_are_not_tested_or_change_are_found() {
         seed: 1,
         calls: 500_000,
         seconds: None,
-        policies: false,
+        policies: &[0],
         writes: true,
         logs: false,
     };
