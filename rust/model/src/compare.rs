@@ -97,8 +97,8 @@ pub struct Difference {
 }
 
 /// A broker over tables, a queue and a log of its own, and the model.
-struct Pair<'a, B> {
-    broker: &'a mut B,
+struct Pair<'a> {
+    broker: &'a mut dyn Broker,
     tables: Tables,
     queue: QueueCells,
     log: Log,
@@ -106,8 +106,8 @@ struct Pair<'a, B> {
     steps: usize,
 }
 
-impl<B: Broker> Pair<'_, B> {
-    fn new<'a>(broker: &'a mut B, start: &Model) -> Pair<'a, B> {
+impl Pair<'_> {
+    fn new<'a>(broker: &'a mut dyn Broker, start: &Model) -> Pair<'a> {
         Pair {
             broker,
             tables: encode(start),
@@ -274,14 +274,14 @@ fn cell_differences(broker: &Tables, model: &Tables) -> Vec<CellDifference> {
 }
 
 /// Where a broker first differs from the model in a case.
-pub fn first_difference<B: Broker>(broker: &mut B, case: &Case) -> Option<Difference> {
+pub fn first_difference(broker: &mut dyn Broker, case: &Case) -> Option<Difference> {
     let mut pair = Pair::new(broker, &case.start);
     case.steps.iter().find_map(|step| pair.take(step).1)
 }
 
 /// Opens rulesets from attributes of every length, at every level; answers a case in which the
 /// sides differ.
-pub fn sweep<B: Broker>(broker: &mut B, seed: u64, tally: &mut Tally) -> Option<Case> {
+pub fn sweep(broker: &mut dyn Broker, seed: u64, tally: &mut Tally) -> Option<Case> {
     let mut random = Random::new(seed);
     let lengths =
         (0..=LAST_LEVEL).flat_map(|level| (0..=LONGEST).map(move |length| (level, length)));
@@ -299,7 +299,7 @@ pub fn sweep<B: Broker>(broker: &mut B, seed: u64, tally: &mut Tally) -> Option<
 
 /// Finds and applies rulesets of policy files with every byte changed and more, at several levels; answers a case in
 /// which the sides differ.
-pub fn sweep_files<B: Broker>(broker: &mut B, tally: &mut Tally) -> Option<Case> {
+pub fn sweep_files(broker: &mut dyn Broker, tally: &mut Tally) -> Option<Case> {
     let swept = files::sweep();
     for (place, level) in [6, 4, 3, 1, 6].into_iter().enumerate() {
         let mut session = Session::new(broker, files::worked_tree(level), Mix::Every, [0; 5]);
@@ -317,7 +317,7 @@ const WRITTEN_TABLES: usize = 300;
 
 /// Writes policy files of the rulesets of random tables, with rooms around their lengths; answers a case in which the sides
 /// differ.
-pub fn sweep_written<B: Broker>(broker: &mut B, seed: u64, tally: &mut Tally) -> Option<Case> {
+pub fn sweep_written(broker: &mut dyn Broker, seed: u64, tally: &mut Tally) -> Option<Case> {
     let mut random = Random::new(seed);
     for _ in 0..WRITTEN_TABLES {
         let model = trees::tables(&mut random);
@@ -351,7 +351,7 @@ pub struct Options {
 }
 
 /// Drives both sides through random cases; answers a case in which they differ.
-pub fn compare<B: Broker>(broker: &mut B, options: &Options, tally: &mut Tally) -> Option<Case> {
+pub fn compare(broker: &mut dyn Broker, options: &Options, tally: &mut Tally) -> Option<Case> {
     let deadline = options
         .seconds
         .map(|seconds| Instant::now() + Duration::from_secs(seconds));
@@ -414,7 +414,7 @@ impl Run<'_> {
 }
 
 /// One random case, as far as it has come.
-struct Session<'a, B> {
+struct Session<'a> {
     mix: Mix,
     /// The chance of something that happens to the queue before the next call, in a hundred.
     queue: u64,
@@ -428,12 +428,12 @@ struct Session<'a, B> {
     log: u64,
     /// What happened since the log was empty, if the log is unbroken.
     history: Option<History>,
-    pair: Pair<'a, B>,
+    pair: Pair<'a>,
     case: Case,
 }
 
-impl<B: Broker> Session<'_, B> {
-    fn new(broker: &mut B, start: Model, mix: Mix, chances: [u64; 5]) -> Session<'_, B> {
+impl Session<'_> {
+    fn new(broker: &mut dyn Broker, start: Model, mix: Mix, chances: [u64; 5]) -> Session<'_> {
         let [queue, batch, policy, write, log] = chances;
         Session {
             mix,

@@ -22,12 +22,7 @@ const LEVEL: u64 = 6;
 
 /// Drives both sides through so many calls on the same tables; answers the calls since the cells
 /// were last the same, if the sides differ.
-pub fn long_run<B: Broker>(
-    broker: &mut B,
-    seed: u64,
-    calls: u64,
-    tally: &mut Tally,
-) -> Option<Case> {
+pub fn long_run(broker: &mut dyn Broker, seed: u64, calls: u64, tally: &mut Tally) -> Option<Case> {
     let model = beginning();
     let mut run = LongRun {
         tables: encode(&model),
@@ -183,14 +178,14 @@ fn last_bare(model: &Model) -> Option<u64> {
 }
 
 /// Both sides, and the calls since their cells were last compared.
-struct LongRun<'a, B> {
-    broker: &'a mut B,
+struct LongRun<'a> {
+    broker: &'a mut dyn Broker,
     tables: Tables,
     model: Model,
     case: Case,
 }
 
-impl<B: Broker> LongRun<'_, B> {
+impl LongRun<'_> {
     /// Makes a call on both sides; answers whether they answer alike.
     fn take(&mut self, call: Call, tally: &mut Tally) -> bool {
         let room = room(&self.model, &call);

@@ -20,7 +20,7 @@ use std::ops::Range;
 const CALLS: usize = 100_000;
 
 /// A short case that still differs, and how.
-pub fn shrink<B: Broker>(broker: &mut B, case: Case) -> Option<(Case, Difference)> {
+pub fn shrink(broker: &mut dyn Broker, case: Case) -> Option<(Case, Difference)> {
     let difference = first_difference(broker, &case)?;
     let mut shrinker = Shrinker {
         broker,
@@ -40,14 +40,14 @@ pub fn shrink<B: Broker>(broker: &mut B, case: Case) -> Option<(Case, Difference
     Some((shrinker.case, shrinker.difference))
 }
 
-struct Shrinker<'a, B> {
-    broker: &'a mut B,
+struct Shrinker<'a> {
+    broker: &'a mut dyn Broker,
     case: Case,
     difference: Difference,
     calls: usize,
 }
 
-impl<B: Broker> Shrinker<'_, B> {
+impl Shrinker<'_> {
     /// Takes a candidate if it still differs.
     fn differs(&mut self, candidate: Case) -> bool {
         if candidate == self.case || self.calls < candidate.steps.len() {
