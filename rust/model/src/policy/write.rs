@@ -42,13 +42,14 @@ pub struct InOrder {
 impl InOrder {
     /// The file of a ruleset with these rules.
     pub fn file(&self, name: &[u8], masks: &Masks) -> Vec<u8> {
-        let masks = [masks.fs.0, masks.net.0, masks.scope.0];
-        let paths = self.paths.iter();
-        let paths = paths.flat_map(|(path, rights)| path_rule(rights.0, path));
-        let ports = self.ports.iter();
-        let ports = ports.flat_map(|(port, rights)| port_rule(rights.0, *port));
-        let opening = opening(name, masks).into_iter();
-        opening.chain(paths).chain(ports).collect()
+        let mut file = opening(name, [masks.fs.0, masks.net.0, masks.scope.0]);
+        for (path, rights) in &self.paths {
+            file.extend(path_rule(rights.0, path));
+        }
+        for (port, rights) in &self.ports {
+            file.extend(port_rule(rights.0, *port));
+        }
+        file
     }
 }
 
@@ -127,7 +128,11 @@ impl Model {
         if way.is_empty() {
             return b"/".to_vec();
         }
-        let names = way.iter().rev().map(|entry| self.names.of(*entry));
-        names.flat_map(|name| [b"/", name].concat()).collect()
+        let mut path = Vec::new();
+        for entry in way.iter().rev() {
+            path.push(b'/');
+            path.extend_from_slice(self.names.of(*entry));
+        }
+        path
     }
 }
