@@ -5,7 +5,7 @@ ghost use Rattle.access.specs.Reply.{is_refused, reply_to};
 use crate::rights::Rights;
 
 // An error number, by its Linux name.
-#[derive(Drop)]
+#[derive(Clone, Copy)]
 pub struct Errno(pub u64);
 
 impl Errno {
@@ -56,7 +56,7 @@ impl Errno {
 
 // A success with its number (the new entry, ruleset or thread, otherwise 0), a refusal, or the refusal of a verdict, with the youngest layer that
 // denies something and what it denies.
-#[derive(Drop)]
+#[derive(Clone, Copy)]
 pub enum Reply {
     Done(u64),
     Refused(Errno),

@@ -4,7 +4,7 @@ ghost use Rattle.access.specs.Kinds.{kind_number, kind_of, make_right, remove_ri
 
 use crate::rights::Rights;
 
-#[derive(Drop)]
+#[derive(Clone, Copy)]
 pub enum Kind {
     Regular,
     Directory,
@@ -16,7 +16,7 @@ pub enum Kind {
 }
 
 // A kind, or none.
-#[derive(Drop)]
+#[derive(Clone, Copy)]
 pub enum MaybeKind {
     Known(Kind),
     None,

@@ -1,4 +1,6 @@
 // The words of the field: right sets, kinds of entries, error numbers and limits.
+#![tactic(auto)]
+
 pub mod errno;
 pub mod kinds;
 pub mod limits;

@@ -2,7 +2,7 @@
 ghost use Rattle.std.specs.Prelude.{◌≡◌, eqb};
 ghost use Rattle.access.specs.Rights.{join, meet, without, within, known_fs, known_net, known_scope, right_at, fs_rights, net_rights, scopes};
 
-#[derive(Drop)]
+#[derive(Clone, Copy)]
 pub struct Rights(pub u64);
 
 impl Rights {

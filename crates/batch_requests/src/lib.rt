@@ -25,7 +25,7 @@ pub const RENAME: u64 = 4;
 pub const EXCHANGE: u64 = 5;
 
 // Its sort, the thread, three numbers, and where its name starts in the names and how long it is.
-#[derive(Drop)]
+#[derive(Clone, Copy)]
 pub struct Request {
     pub sort: u64,
     pub thread: u64,

@@ -1,4 +1,6 @@
 // Slices read and written by cell or by row: a cell that is not there reads as 0, and a write there changes nothing.
+#![tactic(auto)]
+
 ghost use Rattle.std.specs.Prelude.{◌≡◌, ◌*◌, min, get_or, set, length, replicate};
 ghost use Rattle.laws.specs.Cells.{cell, put_cell, zeros, copied};
 

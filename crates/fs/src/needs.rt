@@ -9,14 +9,14 @@ use access::kinds::{Kind, MaybeKind};
 use access::rights::Rights;
 use tables::rows::LAST_KIND;
 
-#[derive(Drop)]
+#[derive(Clone, Copy)]
 pub enum Step {
     Link,
     Rename,
     Exchange,
 }
 
-#[derive(Drop)]
+#[derive(Clone, Copy)]
 pub struct Asked {
     pub source: Rights,
     pub target: Rights,

@@ -6,7 +6,7 @@ use access::rights::Rights;
 use tables::rows::is_dir;
 
 // What moves from where to where.
-#[derive(Drop)]
+#[derive(Clone, Copy)]
 pub struct Move {
     // The source's parent and the target directory.
     pub source: u64,

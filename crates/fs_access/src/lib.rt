@@ -39,7 +39,7 @@ pub fn access_mask(entries: &[u64], e: u64, asked: Rights) -> u64
 }
 
 // The answer to an access request, and how many entries' rules were read for it.
-#[derive(Drop)]
+#[derive(Clone, Copy)]
 pub struct Accessed {
     pub reply: Reply,
     pub read: u64,

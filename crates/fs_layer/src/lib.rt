@@ -15,7 +15,7 @@ use judge::rules::{layer_rules, rights_on};
 use tables::rows::PATH_RULE;
 
 // The sets that a layer holds against a question: what it denies, and what it holds against a move between two directories.
-#[derive(Drop)]
+#[derive(Clone, Copy)]
 pub struct Against {
     pub denied: Rights,
     pub crossed: Rights,

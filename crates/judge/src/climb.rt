@@ -58,7 +58,7 @@ pub fn climb(
 }
 
 // What a climb from an entry finds: the rights that no rule on the way grants, and how many entries' rules it read.
-#[derive(Drop)]
+#[derive(Clone, Copy)]
 pub struct Climbed {
     pub missing: Rights,
     pub read: u64,

@@ -17,7 +17,7 @@ pub const EXCHANGE_TAG: u8 = 20;
 pub const MAX_VALUE: usize = 64;
 
 // A value as a change; its name, where it has one, is the value's rest: from 3 on in a create, from 4 on in a link or rename.
-#[derive(Drop)]
+#[derive(Clone, Copy)]
 pub enum Seen {
     Create(u8, u64),
     Remove(u64),

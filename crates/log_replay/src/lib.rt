@@ -10,7 +10,7 @@ use policy::{HEADER, Span};
 use policy_fields::{Field, field_at};
 
 // What a log comes to: the bytes dropped at its tail, or a field that is EBADMSG.
-#[derive(Drop)]
+#[derive(Clone, Copy)]
 pub enum Replay {
     Applied(usize),
     Faulty,

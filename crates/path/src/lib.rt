@@ -6,7 +6,7 @@ ghost use Rattle.path.specs.Span.{shown_start};
 use names::SLASH;
 
 // Where a component stands in its path: the place of its first byte, and its length. Both are 0 if there is none.
-#[derive(Drop)]
+#[derive(Clone, Copy)]
 pub struct Span {
     pub start: u64,
     pub length: u64,

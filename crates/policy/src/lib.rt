@@ -29,28 +29,28 @@ pub const PORT_SIZE: usize = 10;
 pub const MAX_DEPTH: usize = 8;
 
 // A part of a file, from a place up to another.
-#[derive(Drop)]
+#[derive(Clone, Copy)]
 pub struct Span {
     pub at: usize,
     pub end: usize,
 }
 
 // All read, up to a place; or the place of the first faulty field's tag.
-#[derive(Drop)]
+#[derive(Clone, Copy)]
 pub enum Read {
     Next(usize),
     Fault(usize),
 }
 
 // The two files.
-#[derive(Drop)]
+#[derive(Clone, Copy)]
 pub enum File {
     Stock,
     Site,
 }
 
 // What a name means: a ruleset's part of a file; or a file is over-long, or damaged at a place; or neither file has the name.
-#[derive(Drop)]
+#[derive(Clone, Copy)]
 pub enum Found {
     At(File, Span),
     TooBig(File),

@@ -5,7 +5,7 @@ ghost use Rattle.policy_fields.specs.Fields.{FieldIs};
 use policy::{HEADER, Span};
 
 // What a part of a file begins with: a whole field, which ends at `next`, or none.
-#[derive(Drop)]
+#[derive(Clone, Copy)]
 pub enum Field {
     Whole { tag: u8, next: usize },
     Cut,

@@ -15,7 +15,7 @@ use policy_fields::{Field, field_at};
 const LEVELS: u8 = MAX_LEVEL as u8;
 
 // What a field is, before a group's own fields are read: a rule that ends at a place; a group, by the part that its fields are in; or faulty.
-#[derive(Drop)]
+#[derive(Clone, Copy)]
 pub enum Item {
     Rule(usize),
     Group(Span),

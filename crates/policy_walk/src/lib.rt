@@ -7,7 +7,7 @@ use policy::{GROUP_HEADER, GROUP_TAG, HEADER, PATH_TAG, PORT_TAG, Span};
 use policy_fields::{Field, field_at};
 
 // The next counted rule: its tag, and where its value starts and ends; or there is none.
-#[derive(Drop)]
+#[derive(Clone, Copy)]
 pub enum Step {
     Rule { tag: u8, from: usize, next: usize },
     End,

@@ -25,7 +25,7 @@ pub const WAITING: u64 = 1;
 pub const ANSWERED: u64 = 2;
 
 // What the tables answer a request: error number or 0, layer as a number + 1 or 0, rights, entries read.
-#[derive(Drop)]
+#[derive(Clone, Copy)]
 pub struct Answer {
     pub error: u64,
     pub layer: u64,
@@ -34,7 +34,7 @@ pub struct Answer {
 }
 
 // What a turn says.
-#[derive(Drop)]
+#[derive(Clone, Copy)]
 pub enum Served {
     Slot(u64),
     Idle,

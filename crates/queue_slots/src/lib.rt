@@ -161,7 +161,7 @@ pub fn turn<'t, 'q, 's>(
 }
 
 // What a turn says, and what it leaves.
-#[derive(Drop)]
+#[derive(Clone, Copy)]
 pub struct Turned {
     pub said: Served,
     pub slots: [Slot; 8],

@@ -12,7 +12,7 @@ use queue::{ANSWERED, REQUEST_WIDTH, SLOTS, Served, next_waiting, put_answer, qu
 use queue_answer::answer;
 
 // What a turn says, and the cursor after it.
-#[derive(Drop)]
+#[derive(Clone, Copy)]
 pub struct Round {
     pub said: Served,
     pub cursor: u64,

@@ -10,14 +10,14 @@ use cells::read;
 use queue::{Answer, Served, WAITING, next_waiting, states_known};
 
 // What is asked of the tables.
-#[derive(Drop)]
+#[derive(Clone, Copy)]
 pub struct Request {
     pub thread: u64,
     pub entry: u64,
     pub rights: u64,
 }
 
-#[derive(Drop)]
+#[derive(Clone, Copy)]
 pub struct Slot {
     pub request: Request,
     pub state: u64,
@@ -25,7 +25,7 @@ pub struct Slot {
 }
 
 // The cursor is the slot served last.
-#[derive(Drop)]
+#[derive(Clone, Copy)]
 pub struct Queue {
     pub cursor: u64,
 }

@@ -15,7 +15,7 @@ use sound_names_walk::BUCKETS;
 pub const NAMES_BYTES: usize = NAME_WIDTH * MAX_ENTRIES;
 
 // What the test of the names tells: they are sound, and the index has them all.
-#[derive(Drop)]
+#[derive(Clone, Copy)]
 pub struct Indexed {
     pub sound: bool,
     pub whole: bool,

@@ -16,14 +16,14 @@ use tables::rows::parent_of;
 const STEPS: usize = 4096;
 
 // What the test of an entry tells: no twin, with so many steps left, but nothing of twins once none is left; or not sound.
-#[derive(Drop)]
+#[derive(Clone, Copy)]
 pub enum Tested {
     Left(usize),
     Unsound,
 }
 
 // What the test of all names tells: sound; not sound; or not known, for lack of steps, but every row is sound.
-#[derive(Drop)]
+#[derive(Clone, Copy)]
 pub enum Answer {
     Sound,
     Unsound,

@@ -22,7 +22,7 @@ const LOW_FACTOR: u64 = 0x9E37_79B1;
 const HIGH_FACTOR: u64 = 0x85EB_CA77;
 
 // What a walk tells: no entry of the chain has the row, with so many steps left, but nothing once none is left; or the entry that has it.
-#[derive(Drop)]
+#[derive(Clone, Copy)]
 pub enum Walked {
     Missing(usize),
     Found(usize),

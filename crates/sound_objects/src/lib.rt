@@ -20,7 +20,7 @@ const BLOCK_ROWS: usize = 8;
 const BLOCK_CELLS: usize = ENTRY_WIDTH * BLOCK_ROWS;
 
 // Where a search came to: the object's node, an entry's number + 1; or 0, and the empty cell of `links` where the node would be.
-#[derive(Drop)]
+#[derive(Clone, Copy)]
 pub struct Place {
     pub node: usize,
     pub cell: usize,

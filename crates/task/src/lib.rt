@@ -16,7 +16,7 @@ use access::rights::Rights;
 use tables::rows::{layer_parent, layer_scope, thread_live, youngest_of};
 
 // What a request between threads is for.
-#[derive(Drop)]
+#[derive(Clone, Copy)]
 pub enum Scope {
     AbstractSocket,
     Signal,

@@ -2,7 +2,7 @@
 pub mod entries;
 
 // The entry that a rename replaces, if it replaces one.
-#[derive(Drop)]
+#[derive(Clone, Copy)]
 pub enum Replaced {
     None,
     Entry(u64),

@@ -14,7 +14,7 @@ use judge::climb::{layer_climb, layer_port_missing};
 use tables::rows::{layer_parent, youngest_of};
 
 // What is asked of a domain: rights at an entry, rights at a port, or a move.
-#[derive(Drop)]
+#[derive(Clone, Copy)]
 pub enum Question {
     Entry(u64, Rights),
     Port(u64, Rights),
@@ -23,7 +23,7 @@ pub enum Question {
 
 // The youngest layer that denies something, with what it denies; if none does, the youngest that holds something against a move between two
 // directories, with that.
-#[derive(Drop)]
+#[derive(Clone, Copy)]
 pub enum Denial {
     None,
     Denied(u64, Rights),
@@ -31,14 +31,14 @@ pub enum Denial {
 }
 
 // The denial of a question, and how many entries' rules were read for it.
-#[derive(Drop)]
+#[derive(Clone, Copy)]
 pub struct Judged {
     pub denial: Denial,
     pub read: u64,
 }
 
 // What a layer holds against a question.
-#[derive(Drop)]
+#[derive(Clone, Copy)]
 struct Held {
     denied: Rights,
     crossed: Rights,

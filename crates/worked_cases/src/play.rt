@@ -14,7 +14,7 @@ pub const LAYERS: u64 = 3;
 
 // A case's level, the rights of its rules for the entries 1, 2 and 3 (0 for no rule), the number of its layers, and the stage that
 // is shown.
-#[derive(Drop)]
+#[derive(Clone, Copy)]
 pub struct Setup {
     pub level: u64,
     pub first: u64,

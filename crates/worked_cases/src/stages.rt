@@ -40,7 +40,7 @@ pub const RENAME: u64 = 2;
 pub const LINK: u64 = 3;
 
 // A request, and two entries that are written after it; 0 means none.
-#[derive(Drop)]
+#[derive(Clone, Copy)]
 pub struct Asked {
     pub request: u64,
     pub x: u64,

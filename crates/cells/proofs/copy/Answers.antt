@@ -1,0 +1,33 @@
+use mathlib.Core.Path.{◌≡◌, refl, ap, ◌∙◌}
+use Prim.Native.Nat.{◌≤◌, ◌<◌, ◌-◌}
+use native.Mathlib.Omega.{arith}
+use borrow.Author.Rules.{rules}
+use lib.ListN.{length}
+use Rattle.laws.specs.Cells.{copied}
+use Rattle.laws.proofs.Copies.{copied_none, copied_more, copied-past}
+use Rattle.cells.proofs.copy.Goals as goal
+
+pub returns-then-from-t : goal.returns-then-from-t
+returns-then-from-t c =
+    let a = c.args in copied-past a.t.now a.from a.src.now (length a.src.now) c.if-from-t.true
+
+pub loop-i-init : goal.loop-i-init
+loop-i-init c =
+    (omega arith, copied_none _ _ _, refl, omega arith)
+
+pub loop-i-preserved : goal.loop-i-preserved
+loop-i-preserved c =
+    let l = c.loop-i in
+    let a = c.args in
+    (omega arith, copied_more a.t.now a.from a.src.now l.i l.t _ l.invariant.1 c.write.ensures, c.write.auto.t ∙ l.invariant.2, l.invariant.3)
+
+pub shape_of-t : goal.shape_of-t
+shape_of-t c =
+    c.loop-i.invariant.2
+
+pub returns : goal.returns
+returns c =
+    let l = c.loop-i in
+    let a = c.args in
+    let e : l.i ≡ length a.src.now = omega arith in
+    l.invariant.1 ∙ ap (copied a.t.now a.from a.src.now) e
