@@ -134,9 +134,14 @@ def main():
         with open(p, encoding="utf-8") as f:
             functions |= set(re.findall(r"\bfn (\w+)", f.read()))
 
+    crates = {p.split("/")[1] for p in files}
+    library = set()
+
     def turn(code, plain, steps=False):
         def one(m):
             w = m.group(0)
+            if w in library:
+                return w
             # In a proof of a function, what follows a point may be the step of a call.
             if steps and "-" in w and code[m.start() - 1 : m.start()] == "." and snake(w).replace("-", "_") in functions:
                 return snake(w).replace("-", "_")
@@ -156,7 +161,13 @@ def main():
         for m in re.finditer(r"^(?:ghost )?use Rattle\.\w+\.specs\.(?:Chains|Order|Counts|Walks)\.\{(.*?)\}", text, re.M):
             plain |= PLAIN & set(TOKEN.findall(m.group(1)))
         if p.endswith(".antt"):
-            plain |= {m["n"] for m in DECLARED.finditer(text)} & PLAIN if "/specs/" in p else set()
+            plain |= {m["n"] for m in DECLARED.finditer(text)} & PLAIN if re.match(r"crates/sound_names_\w+/specs/", p) else set()
+        # What a file takes from a library keeps its name.
+        library.clear()
+        for m in re.finditer(r"^(?:ghost |pub )*use ([^\s{]+?)\.\{([^}]*)\}", text, re.M):
+            owner = re.match(r"Rattle\.(\w+)\.", m.group(1))
+            if not owner or owner.group(1) not in crates:
+                library |= {n.split(" as ")[0].strip() for n in m.group(2).split(",")}
         moved = next((m for start, m in MOVED.items() if p.startswith(start)), {})
         out, clause, inside = [], False, 0
         for line in text.split("\n"):
@@ -179,6 +190,7 @@ def main():
         if new != text:
             with open(p, "w", encoding="utf-8") as f:
                 f.write(new)
+    library.clear()
     for p in edits:
         with open(p, encoding="utf-8") as f:
             text = f.read()

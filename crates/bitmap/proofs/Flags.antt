@@ -1,6 +1,6 @@
 -- The laws of flags in words of 64, for any place. Assumes nothing.
 use mathlib.Core.Path.{◌≡◌, refl, sym, ap, ◌∙◌}
-use mathlib.Core.Bool.{Bool, true, false, cond, not, ◌&&◌, ◌||◌, true≢false, false≢true, and_true, and_false, and_assoc, or_false, or_assoc}
+use mathlib.Core.Bool.{Bool, true, false, cond, not, ◌&&◌, ◌||◌, true≢false, false≢true, and-true, and-false, and_assoc, or-false, or_assoc}
 use mathlib.Core.List.{List}
 use Prim.Native.Nat.{ℕ, zero, suc, ◌+◌, ◌-◌, ◌*◌, ◌/◌, ◌%◌, ◌^◌, ◌≤◌, ◌<◌}
 use native.Mathlib.Nat.{add-zero, add-suc, add_assoc, one-mul}
@@ -38,7 +38,7 @@ flag_with ws w m there p =
     let v : ℕ = join (get_or ws w 0) m in
     split (eqb (p / 64) w)
     (λ q. rw (q, eqb-true (p / 64) w q, get_or-set_same ws w v 0 there) (has_join (get_or ws w 0) m (p % 64)))
-    (λ q. rw (q, get_or-set_other ws w (p / 64) v 0 (eqb-false (p / 64) w q)) (sym (or_false (flag ws p))))
+    (λ q. rw (q, get_or-set_other ws w (p / 64) v 0 (eqb-false (p / 64) w q)) (sym (or-false (flag ws p))))
 
 -- a run that lies in word w, and its mask
 module _ (ws : List ℕ) (first w s n m : ℕ) (at : first ≡ 64 * w + s) (fits : s + n ≤ 64) (mask : m ≡ ones s n) where
@@ -98,7 +98,7 @@ module _ (ws : List ℕ) (first w s n m : ℕ) (at : first ≡ 64 * w + s) (fits
 -- two runs, one after the other
 clear_join : (ws : List ℕ) (first m n : ℕ) → (run_clear ws first m && run_clear ws (first + m) n) ≡ run_clear ws first (m + n)
 unfolding all_below
-clear_join ws first m zero = rw (add-zero m) (and_true (run_clear ws first m))
+clear_join ws first m zero = rw (add-zero m) (and-true (run_clear ws first m))
 clear_join ws first m (suc n) =
     rw (add-suc m n, ← clear_join ws first m n, add_assoc first m n) (sym (and_assoc (run_clear ws first m) (run_clear ws (first + m) n) (not (flag ws (first + (m + n))))))
 
@@ -108,7 +108,7 @@ module _ (ws : List ℕ) (first : ℕ) where
   unfolding all_below
   none-taken = record {
     answer = refl;
-    taken = λ e p. rw (← range_none first p) (sym (or_false (flag ws p)));
+    taken = λ e p. rw (← range_none first p) (sym (or-false (flag ws p)));
     refused = λ e. refl;
   }
 
@@ -128,7 +128,7 @@ module _ (ws : List ℕ) (first : ℕ) where
 
     -- a flag of the other n was set
     pub high_refused : run_clear ws (first + m) n ≡ false → RunTaken ws ws first count false
-    high_refused h = refuse ws refl (sym parts ∙ rw h (and_false (run_clear ws first m)))
+    high_refused h = refuse ws refl (sym parts ∙ rw h (and-false (run_clear ws first m)))
 
     -- a flag of the first m was set
     pub low_refused : (after : List ℕ) (r : Bool) → r ≡ false → RunTaken ws after first m r → RunTaken ws after first count false

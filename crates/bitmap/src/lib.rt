@@ -1,4 +1,6 @@
 // Flags in words of 64: flag i is bit i % 64 of word i / 64.
+#![tactic(auto)]
+
 ghost use Rattle.std.specs.Prelude.{◌≡◌, cond, ◌+◌, ◌*◌, ◌<◌, ◌≤◌, eqb, length, get_or};
 ghost use Rattle.access.specs.Rights.{meet};
 ghost use Rattle.bitmap.specs.Bitmap.{flag, with_bits, with_flag, ones, RunTaken};

@@ -62,8 +62,8 @@ layer_row ls l parent fs net scope first count =
     put_cell f layer_width l 6 1
 
 -- "the next pool places": the number of layers used, then the pool rules used
-unfoldable pub IsCounted : List ℕ → ℕ → List ℕ
-IsCounted sys count = set (set sys 2 (layers_used sys + 1)) 3 (pool_used sys + count)
+unfoldable pub counted : List ℕ → ℕ → List ℕ
+counted sys count = set (set sys 2 (layers_used sys + 1)) 3 (pool_used sys + count)
 
 -- "The rules are copied at that moment"; the new layer's parent is the thread's youngest layer, and it is the youngest now
 unfoldable pub restricted : Tables → ℕ → ℕ → Tables
@@ -73,7 +73,7 @@ restricted T t r =
     let l = free_layer T.layers in
     let p = pool_used T.system in
     tables
-    (IsCounted T.system n)
+    (counted T.system n)
     T.entries
     T.rulesets
     (layer_row T.layers l (youngest T.threads t) L.fs L.net L.scope p n)

@@ -1,6 +1,6 @@
 -- What a layer denies at the two directories decides what it holds against a move. Assumes nothing.
 use mathlib.Core.Path.{◌≡◌, refl, sym, ap, ap₂, ◌∙◌}
-use mathlib.Core.Bool.{Bool, true, false, not, ◌&&◌, and_true, and_false}
+use mathlib.Core.Bool.{Bool, true, false, not, ◌&&◌, and-true, and-false}
 use mathlib.Core.List.{List}
 use Prim.Native.Nat.{ℕ}
 use lib.Dec.{eqb}
@@ -42,8 +42,8 @@ module _ (es : List ℕ) (L : Layer) (e : ℕ) where
         ∙ sym (missing-denied es L e p i))
       where
         inside : (b x y : Bool) → (b ≡ true → x ≡ y) → (x && b) ≡ (b && y)
-        inside true x y f = and_true x ∙ f refl
-        inside false x y f = and_false x
+        inside true x y f = and-true x ∙ f refl
+        inside false x y f = and-false x
 
     -- and what is left of it
     part_left : without p d ≡ without p (denied es L e)

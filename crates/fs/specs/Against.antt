@@ -4,15 +4,15 @@ use Rattle.access.specs.Rights.{join, meet, without, REFER}
 use Rattle.fs.specs.declared.verdict.Move.{Move}
 
 -- the rights that containment compares: none within one directory
-unfoldable pub IsCompared : Move → ℕ
-IsCompared m = cond (eqb m.source m.target) 0 (join m.rights.0 m.back.0)
+unfoldable pub compared : Move → ℕ
+compared m = cond (eqb m.source m.target) 0 (join m.rights.0 m.back.0)
 
 -- the rights that matter at P1 and at P2
 abbrev pub at_source : Move → ℕ
-at_source m = join m.leave.0 (IsCompared m)
+at_source m = join m.leave.0 (compared m)
 
 abbrev pub at_target : Move → ℕ
-at_target m = join m.enter.0 (IsCompared m)
+at_target m = join m.enter.0 (compared m)
 
 -- d1 and d2: what the layer denies of these there; own and other: what its rules on the moved objects grant
 unfoldable pub needs_against : Move → ℕ → ℕ → ℕ

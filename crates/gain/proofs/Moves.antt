@@ -1,6 +1,6 @@
 -- Where the thing would stand if it were moved, exchanged or linked, and the set that fails containment there. Assumes nothing.
 use mathlib.Core.Path.{◌≡◌, sym, ap, ap₂, ◌∙◌}
-use mathlib.Core.Bool.{Bool, true, false, ◌||◌, or_false}
+use mathlib.Core.Bool.{Bool, true, false, ◌||◌, or-false}
 use mathlib.Core.List.{List}
 use Prim.Native.Nat.{ℕ, zero, suc, ◌+◌, ◌*◌, ◌<◌}
 use native.Mathlib.Omega.{arith}
@@ -42,7 +42,7 @@ one_way step es s d k2 L =
     let back = uncontained es L d (parent es s) 0 0 in
     let none : (i : ℕ) → has back i ≡ false =
     λ i. split (has back i) (λ h. clash (has 0 i) (within_has back 0 i (uncontained-within es L (move_of step es s d k2 0 0) d (parent es s) 0 0) h) (has-none i)) (λ h. h) in
-    ext_has (join there back) there (λ i. has_join there back i ∙ ap (λ (b : Bool). has there i || b) (none i) ∙ or_false (has there i))
+    ext_has (join there back) there (λ i. has_join there back i ∙ ap (λ (b : Bool). has there i || b) (none i) ∙ or-false (has there i))
 
 -- ---- one thing moves
 module _ (T : Tables) (S : Sound T) (s d : ℕ) (source : live T.entries s ≡ true) (nz : 0 ≡ s → ⊥) (home : is_dir T.entries d ≡ true) (away : Avoids T.entries s d) where

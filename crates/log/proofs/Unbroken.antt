@@ -1,6 +1,6 @@
 -- An unbroken log, cut after any byte, replayed onto the tables that it started from: the tree after exactly the changes whose fields are whole, and the number of bytes dropped. Assumes nothing.
 use mathlib.Core.Path.{◌≡◌, refl, sym, ap, ◌∙◌}
-use mathlib.Core.Bool.{Bool, true, false, cond, and_false}
+use mathlib.Core.Bool.{Bool, true, false, cond, and-false}
 use mathlib.Core.List.{List, [], ◌∷◌, ◌++◌, append_assoc, append-nil}
 use Prim.Native.Nat.{ℕ, zero, suc, ◌+◌, ◌-◌, ◌≤◌, ◌<◌}
 use native.Mathlib.Omega.{arith}
@@ -112,7 +112,7 @@ unfolding up_to keep_if wrote_within
 up_to-past k [] M p = refl
 up_to-past k (h ∷ hs) M p =
     let g = used_grows M h in
-    rw (up_to-past k hs (next M h) (omega arith), lt-leb (next M h).log.used k (omega arith), and_false) refl
+    rw (up_to-past k hs (next M h) (omega arith), lt-leb (next M h).log.used k (omega arith), and-false) refl
 
 up_to-goes : (k : ℕ) (M : Moment) (h : Step) (hs : List Step) → M.log.used < (next M h).log.used → (next M h).log.used ≤ k → up_to k M (h ∷ hs) ≡ h ∷ up_to k (next M h) hs
 unfolding up_to keep_if wrote_within
@@ -120,7 +120,7 @@ up_to-goes k M h hs g p = rw (lt-ltb M.log.used (next M h).log.used g, le-leb (n
 
 up_to_stops : (k : ℕ) (M : Moment) (h : Step) (hs : List Step) → k < (next M h).log.used → up_to k M (h ∷ hs) ≡ []
 unfolding up_to keep_if wrote_within
-up_to_stops k M h hs p = rw (up_to-past k hs (next M h) p, lt-leb (next M h).log.used k p, and_false) refl
+up_to_stops k M h hs p = rw (up_to-past k hs (next M h) p, lt-leb (next M h).log.used k p, and-false) refl
 
 -- a step that leaves tree and log
 up_to_quiet : (k : ℕ) (M : Moment) (h : Step) (hs : List Step) → (next M h).log ≡ M.log → up_to k M (h ∷ hs) ≡ keep_if false h (up_to k (next M h) hs)

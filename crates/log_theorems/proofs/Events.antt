@@ -1,7 +1,7 @@
 -- Demand 3 on the six tables with jumps among the calls: a jump gives the entries that calls would leave from here, all else but the next object number as it is.
 -- Assumes nothing.
 use mathlib.Core.Path.{◌≡◌, refl, sym, ◌∙◌}
-use mathlib.Core.Bool.{true, false, and_false}
+use mathlib.Core.Bool.{true, false, and-false}
 use mathlib.Core.List.{List, [], ◌∷◌, ◌++◌}
 use Prim.Native.Nat.{ℕ}
 use lib.ListN.{set}
@@ -147,7 +147,7 @@ entries_e T t vs h n w e i a k x =
 
 pub link-ends : (T : Tables) (u s d t : ℕ) → ends T (link u s d) t ≡ false
 unfolding ends would_end
-link-ends T u s d t = and_false (is_done (reply T (link u s d)))
+link-ends T u s d t = and-false (is_done (reply T (link u s d)))
 
 -- a new link, made on tables T1 to which t's layers came from T, by a thread of that domain or one grown from it; then calls; then events, from tables T3 to which
 -- t's layers came too and which have the entries that the calls left

@@ -1,6 +1,6 @@
 -- A call with a log, and a step of an unbroken history, as calls of document 01. Assumes nothing.
 use mathlib.Core.Path.{◌≡◌, refl, sym, ap, ◌∙◌}
-use mathlib.Core.Bool.{Bool, true, false, cond, not, ◌&&◌, and_false, false≢true}
+use mathlib.Core.Bool.{Bool, true, false, cond, not, ◌&&◌, and-false, false≢true}
 use mathlib.Core.List.{List, []}
 use Prim.Native.Nat.{ℕ}
 use borrow.Author.Tests.{not-false}
@@ -59,11 +59,11 @@ module _ (N : Named) (t : ℕ) where
 
   ends-none : (c : Change) (u : ℕ) → ends_named N (call_of t c) u ≡ false
   unfolding ends_named would_end_named call_of
-  ends-none (create k d n) u = and_false (is_done (reply_named N (NamedCall.create t d k n)))
-  ends-none (remove e) u = and_false (is_done (reply_named N (NamedCall.remove t e)))
-  ends-none (link s d n) u = and_false (is_done (reply_named N (NamedCall.link t s d n)))
-  ends-none (rename s d n) u = and_false (is_done (reply_named N (NamedCall.rename t s d n)))
-  ends-none (exchange s d x) u = and_false (is_done (reply_named N (NamedCall.exchange t s d x)))
+  ends-none (create k d n) u = and-false (is_done (reply_named N (NamedCall.create t d k n)))
+  ends-none (remove e) u = and-false (is_done (reply_named N (NamedCall.remove t e)))
+  ends-none (link s d n) u = and-false (is_done (reply_named N (NamedCall.link t s d n)))
+  ends-none (rename s d n) u = and-false (is_done (reply_named N (NamedCall.rename t s d n)))
+  ends-none (exchange s d x) u = and-false (is_done (reply_named N (NamedCall.exchange t s d x)))
 
 module _ (N : Named) (t : ℕ) (c : Change) (L : Log) where
   abbrev full : Bool
@@ -108,7 +108,7 @@ module _ (N : Named) (t : ℕ) (c : Change) (L : Log) where
 -- ---- a call that leaves the tree frees none
 plain-frees : (N : Named) (c : NamedCall) (u : Unlogged c) (e : ℕ) → frees_logged N (plain c u) e ≡ false
 unfolding frees_logged frees_named
-plain-frees N c u e = rw ((quiet N c u).frees e) (and_false (is_done (reply_named N c)))
+plain-frees N c u e = rw ((quiet N c u).frees e) (and-false (is_done (reply_named N c)))
 
 idle-frees : (N : Named) (t : ℕ) (c : Change) (e : ℕ) → idle (tree_of N) c ≡ true → would_free_named N (call_of t c) e ≡ false
 unfolding idle call_of would_free_named replaced_by replacing
@@ -125,7 +125,7 @@ still-frees N t c e h = split (is_done (reply_named N (call_of t c)))
     let a = accepted N t c r in
     let S = tree_of N in
     let q : same_tree S (changed S c) ≡ true = rw a.effect (not-false _ h) in
-    rw (idle-frees N t c e (sym (same-idle N a.is-sound_lem c a.none) ∙ q)) (and_false (is_done (reply_named N (call_of t c)))))
+    rw (idle-frees N t c e (sym (same-idle N a.is-sound_lem c a.none) ∙ q)) (and-false (is_done (reply_named N (call_of t c)))))
     (λ r. rw r refl)
 
 logged-frees : (N : Named) (t : ℕ) (c : Change) (L : Log) (e : ℕ) → Leaves N (logged t c L) → frees_logged N (logged t c L) e ≡ false

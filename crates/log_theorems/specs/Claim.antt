@@ -18,11 +18,11 @@ pub data Item : Type 0 where
   call : LogCall → Item
   -- a replay that counts, with the history of its log: the log when it was empty, the steps since, and how many of its bytes are left. "replayed where they
   -- started": the history starts from the very tables that the replay meets, every cell of them
-  IsCounted : Log → List Step → ℕ → Item
+  counted : Log → List Step → ℕ → Item
 
 unfoldable pub call_at : Named → Item → LogCall
 call_at N (call c) = c
-call_at N (IsCounted L hs k) = replay (take k (written (last (moment N L) hs).log))
+call_at N (counted L hs k) = replay (take k (written (last (moment N L) hs).log))
 
 abbrev pub after_item : Named → Item → Named
 after_item N a = after_logged N (call_at N a)
@@ -72,7 +72,7 @@ unfoldable pub Fair : List ℕ → ℕ → Named → Item → Type 0
 Fair D t N (call (plain c q)) = ChangesTree N (plain c q) → Grown D (domain_of N.core (caller_named c))
 Fair D t N (call (logged u c L)) = ChangesTree N (logged u c L) → Grown D (domain_of N.core u)
 Fair D t N (call (replay bs)) = (after_logged N (replay bs)).core.entries ≡ N.core.entries
-Fair D t N (IsCounted L hs k) = Counts D t N L hs k
+Fair D t N (counted L hs k) = Counts D t N L hs k
 
 abbrev pub Within : List ℕ → ℕ → Named → List Item → Type 0
 Within D t N cs = EachItem (Fair D t) N cs
@@ -92,7 +92,7 @@ frees_step M (fresh level) e = false
 -- "each whole field as the call that wrote it"
 unfoldable pub Spares : ℕ → Named → Item → Type 0
 Spares e N (call c) = frees_logged N c e ≡ false
-Spares e N (IsCounted L hs k) = Each (λ M h. frees_step M h e ≡ false) (moment N L) (up_to k (moment N L) hs)
+Spares e N (counted L hs k) = Each (λ M h. frees_step M h e ≡ false) (moment N L) (up_to k (moment N L) hs)
 
 -- e, live at the start, "lived all through"
 abbrev pub Kept : Named → List Item → ℕ → Type 0
@@ -116,11 +116,11 @@ pub record NotWider (N : Named) (t : ℕ) (cs : List Item) : Type 0 where
       → holds (all_items N before).core (domain_of N.core t) s i ≡ false → holds (all_items N cs).core (domain_of N.core t) n i ≡ false
   -- one that a replay in the list made: "each whole field as the call that wrote it", and "when linked" is on the tables that this call got
   pub replayed-links_lem : (before later : List Item) (L : Log) (hs : List Step) (k : ℕ) (first rest : List Step) (u s d : ℕ) (name : List ℕ) (n i : ℕ)
-      → cs ≡ before ++ IsCounted L hs k ∷ later
+      → cs ≡ before ++ counted L hs k ∷ later
       → up_to k (moment (all_items N before) L) hs ≡ first ++ ours u (link s d name) ∷ rest
       → let M = last (moment (all_items N before) L) first in
       reply_logged M.tables (logged u (link s d name) M.log) ≡ Done n
-      → Each (λ M h. frees_step M h n ≡ false) (next M (ours u (link s d name))) rest → Kept (after_item (all_items N before) (IsCounted L hs k)) later n
+      → Each (λ M h. frees_step M h n ≡ false) (next M (ours u (link s d name))) rest → Kept (after_item (all_items N before) (counted L hs k)) later n
       → holds M.tables.core (domain_of N.core t) s i ≡ false → holds (all_items N cs).core (domain_of N.core t) n i ≡ false
   -- no port is granted a right that it was not granted
   pub ports : (port i : ℕ) → port_grants N.core (domain_of N.core t) port i ≡ false

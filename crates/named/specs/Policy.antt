@@ -100,5 +100,5 @@ applied_place N stock site name =
     cond (named_sound N) (cond (not (eqb (found_number f) 0) || is_done (apply_named N stock site name).reply) (found_place f) (place 0 0 0)) (place 0 0 0)
 
 -- a report has as many of the three as it has cells
-unfoldable pub IsPlaced : List ℕ → Place → List ℕ
-IsPlaced cells p = set (set (set cells 0 p.file) 1 p.at) 2 p.size
+unfoldable pub placed : List ℕ → Place → List ℕ
+placed cells p = set (set (set cells 0 p.file) 1 p.at) 2 p.size

@@ -31,13 +31,13 @@ counted_in inner level (field t v) =
     cond (eqb t group_tag) (cond (leb (get_or v 0 0) level) rules []) (rule_of t v)
 
 -- the counted rules of a field in which d groups may stand inside one another
-unfoldable pub IsCounted : ℕ → ℕ → Piece → List Rule
-IsCounted zero level p = counted_in (λ q. []) level p
-IsCounted (suc d) level p = counted_in (IsCounted d level) level p
+unfoldable pub counted : ℕ → ℕ → Piece → List Rule
+counted zero level p = counted_in (λ q. []) level p
+counted (suc d) level p = counted_in (counted d level) level p
 
 -- the counted rules of a ruleset's part
 unfoldable pub rules_of : ℕ → List ℕ → List Rule
-rules_of level s = collect (IsCounted max_depth level) (pieces s)
+rules_of level s = collect (counted max_depth level) (pieces s)
 
 -- "in a ruleset with groups", counted or not
 unfoldable pub any_group : List Piece → Bool

@@ -75,14 +75,14 @@ appended rs r i ty key rights =
     put_cell c ruleset_width r 3 (i + 1)
 
 -- a new rule if there is none for the key, and room for one
-unfoldable pub IsAdded : List ℕ → ℕ → ℕ → ℕ → ℕ → List ℕ
-IsAdded rs r ty key rights =
+unfoldable pub added : List ℕ → ℕ → ℕ → ℕ → ℕ → List ℕ
+added rs r ty key rights =
     cond (leb (ruleset_count rs r) (place_in rs r ty key))
     (cond (ltb (ruleset_count rs r) max_rules) (appended rs r (ruleset_count rs r) ty key rights) rs)
     (joined rs r (place_in rs r ty key) rights)
 
 unfoldable pub add_done : Tables → ℕ → ℕ → ℕ → ℕ → Outcome
-add_done T r ty key rights = outcome (Done 0) (with_rulesets T (IsAdded T.rulesets r ty key rights))
+add_done T r ty key rights = outcome (Done 0) (with_rulesets T (added T.rulesets r ty key rights))
 
 unfoldable pub path_added : Tables → ℕ → ℕ → ℕ → ℕ → Outcome
 path_added T r e rights flags = call T (add_path_checks T r e rights flags) (add_done T r path_rule (object T.entries e) rights)

@@ -1,6 +1,6 @@
 -- A name is unique in its directory exactly if no entry on the chain of its bucket has it. Assumes nothing.
 use mathlib.Core.Path.{◌≡◌, refl, sym, ap, ◌∙◌}
-use mathlib.Core.Bool.{true, false, and_false}
+use mathlib.Core.Bool.{true, false, and-false}
 use mathlib.Core.List.{List}
 use Prim.Native.Nat.{ℕ, ◌+◌, ◌*◌, ◌<◌}
 use lib.Dec.{eqb}
@@ -59,7 +59,7 @@ module _ (es ns : List ℕ) where
     added_by : {steps : ℕ} → (steps ≡ 0 → ⊥) → (t : Walked) → IsWalked es ns links (parent es e) (row_at ns e) (get_or heads b 0) t → IsAdded es ns (set heads b e) (set links e (get_or heads b 0)) steps e (tested_by t)
     unfolding IsWalked IsAdded
     added_by some (Missing n) C = (row_own es ns w e small l rows, λ z. ((some, none_before (C z)), index_add es ns u small l q in-heads))
-    added_by some (Found f) s = rw (some-before f s.0 s.1) (and_false (row_sound es ns e))
+    added_by some (Found f) s = rw (some-before f s.0 s.1) (and-false (row_sound es ns e))
 
     -- as the code comes to it
     pub added_is : {steps p : ℕ} {r : Tested} (t : Walked) → (steps ≡ 0 → ⊥) → p ≡ parent es e → IsWalked es ns links p (row_at ns e) (get_or heads b 0) t → r ≡ tested_by t → IsAdded es ns (set heads b e) (set links e (get_or heads b 0)) steps e r

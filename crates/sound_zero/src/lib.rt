@@ -1,4 +1,6 @@
 // Free space: whole blocks of cells tested at once.
+#![tactic(auto)]
+
 ghost use Rattle.std.specs.Prelude.{◌≡◌, ◌+◌, ◌≤◌, eqb, length, get_or};
 ghost use Rattle.laws.specs.Tests.{all_below};
 ghost use Rattle.laws.specs.Cells.{zeros};

@@ -1,6 +1,6 @@
 -- A right that a layer denies an entry stays denied through a call from a thread that the layer binds; and what it denies an entry, it denies a new link of it. Assumes nothing.
 use mathlib.Core.Path.{◌≡◌, refl}
-use mathlib.Core.Bool.{true, false, and_false}
+use mathlib.Core.Bool.{true, false, and-false}
 use mathlib.Core.List.{List, [], ◌∷◌}
 use mathlib.Core.Logic.{◌⊎◌, inl, inr}
 use Prim.Native.Nat.{ℕ}
@@ -84,7 +84,7 @@ module _ (T : Tables) (u s d n : ℕ) (h : sound T ≡ true) (y : reply T (link 
 
   link-frees : (e : ℕ) → frees T (link u s d) e ≡ false
   unfolding frees would_free
-  link-frees e = and_false (is_done (reply T (link u s d)))
+  link-frees e = and-false (is_done (reply T (link u s d)))
 
   link_shut : (l i : ℕ) → elem l (domain_of T u) ≡ true → has (entry_rights T.entries s) i ≡ true → has (handled (layer_at T.layers T.pool l)) i ≡ true
       → Shut T.entries (gives (layer_at T.layers T.pool l) i) s → Shut (after T (link u s d)).entries (gives (layer_at T.layers T.pool l) i) n

@@ -1,6 +1,6 @@
 -- One call: what it does to the entries, in the eyes of one layer of the caller's domain and one right. Assumes nothing.
 use mathlib.Core.Path.{◌≡◌, refl, sym}
-use mathlib.Core.Bool.{Bool, true, false, not, ◌&&◌, and_false}
+use mathlib.Core.Bool.{Bool, true, false, not, ◌&&◌, and-false}
 use mathlib.Core.List.{List}
 use Prim.Native.Nat.{ℕ}
 use native.Mathlib.Omega.{arith}
@@ -194,7 +194,7 @@ module _ (T : Tables) (s : sound T ≡ true) where
 
   -- every other call leaves the entries alone
   other-done : (u : ℕ) (done : Outcome) → done.left.entries ≡ T.entries → StepOf T u done (λ e. false)
-  other-done u done q = rw q (still-step u (λ e. is_done done.reply && false) (λ e. and_false (is_done done.reply)))
+  other-done u done q = rw q (still-step u (λ e. is_done done.reply && false) (λ e. and-false (is_done done.reply)))
 
   other_step : (u : ℕ) (cs : List Check) (done : Outcome) → done.left.entries ≡ T.entries → StepOf T u (call T cs done) (λ e. false)
   other_step u cs done q = call_step u cs done (λ e. false) (λ z. other-done u done q)

@@ -1,6 +1,6 @@
 -- What a denial says of the domain: the number of access, port and move follows from it, and the layer that their replies name. Assumes nothing.
 use mathlib.Core.Path.{◌≡◌, refl, sym, ap, ◌∙◌}
-use mathlib.Core.Bool.{Bool, true, false, cond, not, ◌||◌, or_false, or_assoc, false≢true}
+use mathlib.Core.Bool.{Bool, true, false, cond, not, ◌||◌, or-false, or_assoc, false≢true}
 use mathlib.Core.List.{List, [], ◌∷◌, ◌++◌}
 use Prim.Native.Nat.{ℕ, zero, suc}
 use native.Mathlib.Omega.{arith}
@@ -46,7 +46,7 @@ module _ (a b : ℕ → ℕ) where
 
   refused-any : (k set : ℕ) (D : List ℕ) → refusal_of (denial a b k set D) ≡ first (any (some a) D ⇒ EACCES ∷ (not (eqb k 0) || any (some b) D) ⇒ EXDEV ∷ [])
   unfolding denial any refusal_of first
-  refused-any k set [] = crossed-refused k set ∙ ap (λ (x : Bool). cond x EXDEV 0) (sym (or_false (not (eqb k 0))))
+  refused-any k set [] = crossed-refused k set ∙ ap (λ (x : Bool). cond x EXDEV 0) (sym (or-false (not (eqb k 0))))
   refused-any k set (l ∷ D) = split (eqb (a l) 0)
       (λ q.
       rw q

@@ -1,4 +1,3 @@
--- The invariant: every cell below `i` is 0. Assumes nothing.
 use Prim.Native.Nat.{◌≤◌, ◌-◌}
 use mathlib.Core.Path.{◌≡◌, sym, ◌∙◌}
 use mathlib.Core.Bool.{true}
@@ -11,14 +10,7 @@ use Rattle.laws.specs.Tests.{all_below}
 use Rattle.laws.specs.Cells.{zeros}
 use Rattle.laws.proofs.Tests.{all_none}
 use Rattle.sound_zero.proofs.Blocks.{block_more, block_fails, zeros-rest}
-use Rattle.sound_zero.proofs.all_zero.Statement.{statement}
-use Rattle.sound_zero.proofs.all_zero.Tie as tie
-
-abbrev invariant_loop : tie.invariant_loop
-invariant_loop t n i₀ i = (i ≤ length t) × (all_below (λ j. eqb (get_or t j 0) 0) i ≡ true)
-
-abbrev decreases_loop : tie.decreases_loop
-decreases_loop t n i₀ i = length t - i
+use Rattle.sound_zero.proofs.all_zero.Goals as goal
 
 fails : tie.Need-returns invariant_loop decreases_loop
 unfolding zeros
@@ -35,20 +27,18 @@ again c =
           (sym d.block_zero.ensures ∙ not-false _ c.if1.false),
     )
 
-pub all_zero_spec : {M : Type 1} → statement M
-all_zero_spec =
-    tie.close
-    (tie.spec invariant_loop decreases_loop
-    (λ c. (omega arith, all_none _))
-    (λ c. omega arith)
-    (λ c κs. omega arith)
-    fails
-    (λ c. omega arith)
-    (λ c. omega arith)
-    again
-    (λ c. search rules)
-    (λ c. search rules)
-    (λ c. omega arith)
-    (λ c. omega arith)
-    (λ c κs. search rules)
-    (λ c. let l = c.before.before.before in c.all_zero.ensures ∙ zeros-rest l.before.before.args.t.now l.loop.i l.loop.invariant.0 l.loop.invariant.1))
+pub loop-i-init : goal.loop-i-init
+loop-i-init c =
+    (omega arith, all_none _)
+
+pub returns-then-not-block_zero : goal.returns-then-not-block_zero
+returns-then-not-block_zero c =
+    fails c
+
+pub loop-i-preserved : goal.loop-i-preserved
+loop-i-preserved c =
+    again c
+
+pub returns : goal.returns
+returns c =
+    c.all_zero.ensures ∙ zeros-rest c.args.t.now c.loop-i.i c.loop-i.invariant.0 c.loop-i.invariant.1
