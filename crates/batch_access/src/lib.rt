@@ -1,6 +1,6 @@
 // The answers of a batch to requests for access to an entry or a port on sound tables: the call's checks up to and with the verdict.
 ghost use Rattle.std.specs.Prelude.{◌≡◌};
-ghost use Rattle.tables.specs.Tables.{before as six};
+ghost use Rattle.tables.specs.Tables.{tables};
 ghost use Rattle.judge.specs.Blame.{entry_reply, port_reply};
 ghost use Rattle.fs_access.specs.Access.{access_checks};
 ghost use Rattle.net.specs.Port.{port_checks};
@@ -29,7 +29,7 @@ pub fn access_reply(
     asked: Rights,
 ) -> Reply
     requires { BatchReady entries.now layers.now pool.now threads.now orders.now top rows.old marks.old }
-    ensures reply { result ≡ entry_reply (six system entries rulesets layers pool threads) t e asked.0 (access_checks (six system entries rulesets layers pool threads) t e asked.0) }
+    ensures reply { result ≡ entry_reply (tables system.now entries.now rulesets.now layers.now pool.now threads.now) t e asked.0 (access_checks (tables system.now entries.now rulesets.now layers.now pool.now threads.now) t e asked.0) }
     ensures ready { BatchReady entries.now layers.now pool.now threads.now orders.now top rows.new marks.new }
 {
     let a = access_names(entries, threads, t, e);
@@ -57,7 +57,7 @@ pub fn port_reply(
     port: u64,
     asked: Rights,
 ) -> Reply
-    ensures { result ≡ port_reply (six system entries rulesets layers pool threads) t port asked.0 (port_checks (six system entries rulesets layers pool threads) t port asked.0) }
+    ensures { result ≡ port_reply (tables system.now entries.now rulesets.now layers.now pool.now threads.now) t port asked.0 (port_checks (tables system.now entries.now rulesets.now layers.now pool.now threads.now) t port asked.0) }
 {
     let a = port_form(threads, t, port, asked);
     if a != 0 {

@@ -4,7 +4,6 @@ ghost use Rattle.laws.specs.Refusals.{first};
 ghost use Rattle.sound_names_chains.specs.Chains.{IndexedIf};
 ghost use Rattle.named.specs.Named.{with_names, named_sound};
 ghost use Rattle.tables.specs.Tables.{tables};
-ghost use Rattle.named.specs.Slices.{before};
 ghost use Rattle.named.specs.Batch.{request_count, answers_to, batch_checks};
 
 use access::errno::{Errno, Reply};
@@ -32,7 +31,7 @@ pub fn answer_all(
     answers: &mut [u64],
 )
     requires { (named_sound (with_names (tables system.now entries.now rulesets.now layers.now pool.now threads.now) names.now) ≡ true) × (IndexedIf whole entries.now names.now heads.now links.now × (first (batch_checks requests.now answers.old) ≡ 0)) }
-    ensures { answers.new ≡ answers_to (before system entries rulesets layers pool threads names) requests.now asked.now answers.old (request_count requests.now) }
+    ensures { answers.new ≡ answers_to (with_names (tables system.now entries.now rulesets.now layers.now pool.now threads.now) names.now) requests.now asked.now answers.old (request_count requests.now) }
 {
     let needs = needs_table();
     let mut orders = [0u16; ORDERS_CELLS];
@@ -81,7 +80,7 @@ pub fn answer_unsound(
     answers: &mut [u64],
 )
     requires { (named_sound (with_names (tables system.now entries.now rulesets.now layers.now pool.now threads.now) names.now) ≡ false) × (first (batch_checks requests.now answers.old) ≡ 0) }
-    ensures { answers.new ≡ answers_to (before system entries rulesets layers pool threads names) requests.now asked.now answers.old (request_count requests.now) }
+    ensures { answers.new ≡ answers_to (with_names (tables system.now entries.now rulesets.now layers.now pool.now threads.now) names.now) requests.now asked.now answers.old (request_count requests.now) }
 {
     let n = requests.len() / REQUEST_WIDTH;
     let mut i = 0;

@@ -1,7 +1,6 @@
 // The answer of a batch to an exchange on sound tables: the call's checks up to and with the verdict.
 ghost use Rattle.std.specs.Prelude.{◌≡◌, true};
 ghost use Rattle.tables.specs.Tables.{tables};
-ghost use Rattle.tables.specs.Tables.{before as six};
 ghost use Rattle.sound.specs.Sound.{sound};
 ghost use Rattle.fs.specs.Blame.{move_reply};
 ghost use Rattle.fs.specs.NeedsTable.{NeedsTable};
@@ -33,7 +32,7 @@ pub fn exchange_reply(
     x: u64,
 ) -> Reply
     requires { (sound (tables system.now entries.now rulesets.now layers.now pool.now threads.now) ≡ true) × (NeedsTable needs.now × BatchReady entries.now layers.now pool.now threads.now orders.now top rows.old marks.old) }
-    ensures reply { result ≡ move_reply (six system entries rulesets layers pool threads) t (exchange_move entries.now s d x) (exchange_checks (six system entries rulesets layers pool threads) t s d x) }
+    ensures reply { result ≡ move_reply (tables system.now entries.now rulesets.now layers.now pool.now threads.now) t (exchange_move entries.now s d x) (exchange_checks (tables system.now entries.now rulesets.now layers.now pool.now threads.now) t s d x) }
     ensures ready { BatchReady entries.now layers.now pool.now threads.now orders.now top rows.new marks.new }
 {
     let a = exchange_names(system, entries, rulesets, layers, pool, threads, t, s, d, x);

@@ -1,12 +1,12 @@
 // The answer of a batch to a link on sound tables: the call's checks up to and with the verdict.
+ghost use Rattle.named.specs.Named.{with_names};
+ghost use Rattle.tables.specs.Tables.{tables};
 ghost use Rattle.std.specs.Prelude.{◌≡◌};
 ghost use Rattle.laws.specs.Refusals.{first};
-ghost use Rattle.tables.specs.Tables.{before as six};
 ghost use Rattle.fs.specs.Blame.{move_reply};
 ghost use Rattle.fs.specs.NeedsTable.{NeedsTable};
 ghost use Rattle.tree.specs.Moves.{link_move};
 ghost use Rattle.sound_names_chains.specs.Chains.{IndexedIf};
-ghost use Rattle.named.specs.Slices.{before};
 ghost use Rattle.named.specs.Tree.{new_name};
 ghost use Rattle.named.specs.Batch.{link_asked};
 ghost use Rattle.batch_verdict.specs.Batch.{BatchReady};
@@ -65,7 +65,7 @@ pub fn link_reply(
     name: &[u8],
 ) -> Reply
     requires { NeedsTable needs.now × (IndexedIf whole entries.now names.now heads.now links.now × BatchReady entries.now layers.now pool.now threads.now orders.now top rows.old marks.old) }
-    ensures reply { result ≡ move_reply (six system entries rulesets layers pool threads) t (link_move entries.now s d) (link_asked (before system entries rulesets layers pool threads names) t s d name.now) }
+    ensures reply { result ≡ move_reply (tables system.now entries.now rulesets.now layers.now pool.now threads.now) t (link_move entries.now s d) (link_asked (with_names (tables system.now entries.now rulesets.now layers.now pool.now threads.now) names.now) t s d name.now) }
     ensures ready { BatchReady entries.now layers.now pool.now threads.now orders.now top rows.new marks.new }
 {
     let a = link_target(entries, threads, t, s, d);

@@ -1,11 +1,11 @@
 // The answer of a batch to a rename on sound tables: the call's checks up to and with the verdict.
+ghost use Rattle.named.specs.Named.{with_names};
+ghost use Rattle.tables.specs.Tables.{tables};
 ghost use Rattle.std.specs.Prelude.{◌≡◌};
-ghost use Rattle.tables.specs.Tables.{before as six};
 ghost use Rattle.fs.specs.Blame.{move_reply};
 ghost use Rattle.fs.specs.NeedsTable.{NeedsTable};
 ghost use Rattle.tree.specs.Moves.{rename_move};
 ghost use Rattle.sound_names_chains.specs.Chains.{IndexedIf};
-ghost use Rattle.named.specs.Slices.{before};
 ghost use Rattle.named.specs.Tree.{replaced_by};
 ghost use Rattle.named.specs.Batch.{rename_asked};
 ghost use Rattle.batch_verdict.specs.Batch.{BatchReady};
@@ -41,7 +41,7 @@ pub fn rename_reply(
     name: &[u8],
 ) -> Reply
     requires { NeedsTable needs.now × (IndexedIf whole entries.now names.now heads.now links.now × BatchReady entries.now layers.now pool.now threads.now orders.now top rows.old marks.old) }
-    ensures reply { result ≡ move_reply (six system entries rulesets layers pool threads) t (rename_move entries.now s d (replaced_by (before system entries rulesets layers pool threads names) d name.now)) (rename_asked (before system entries rulesets layers pool threads names) t s d name.now) }
+    ensures reply { result ≡ move_reply (tables system.now entries.now rulesets.now layers.now pool.now threads.now) t (rename_move entries.now s d (replaced_by (with_names (tables system.now entries.now rulesets.now layers.now pool.now threads.now) names.now) d name.now)) (rename_asked (with_names (tables system.now entries.now rulesets.now layers.now pool.now threads.now) names.now) t s d name.now) }
     ensures ready { BatchReady entries.now layers.now pool.now threads.now orders.now top rows.new marks.new }
 {
     let a = link_target(entries, threads, t, s, d);

@@ -4,7 +4,6 @@ ghost use Rattle.fs.specs.NeedsTable.{NeedsTable};
 ghost use Rattle.sound_names_chains.specs.Chains.{IndexedIf};
 ghost use Rattle.named.specs.Named.{with_names, named_sound};
 ghost use Rattle.tables.specs.Tables.{tables};
-ghost use Rattle.named.specs.Slices.{before};
 ghost use Rattle.named.specs.Batch.{part_name, reply_asked};
 ghost use Rattle.batch_verdict.specs.Batch.{BatchReady};
 
@@ -38,7 +37,7 @@ pub fn request_reply(
     asked: &[u8],
 ) -> Reply
     requires { (named_sound (with_names (tables system.now entries.now rulesets.now layers.now pool.now threads.now) names.now) ≡ true) × (NeedsTable needs.now × (IndexedIf whole entries.now names.now heads.now links.now × BatchReady entries.now layers.now pool.now threads.now orders.now top rows.old marks.old)) }
-    ensures reply { result ≡ reply_asked (before system entries rulesets layers pool threads names) request.sort request.thread request.a request.b request.c (part_name asked.now request.from request.bytes) }
+    ensures reply { result ≡ reply_asked (with_names (tables system.now entries.now rulesets.now layers.now pool.now threads.now) names.now) request.sort request.thread request.a request.b request.c (part_name asked.now request.from request.bytes) }
     ensures ready { BatchReady entries.now layers.now pool.now threads.now orders.now top rows.new marks.new }
 {
     let sort = request.sort;

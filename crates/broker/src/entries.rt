@@ -1,6 +1,6 @@
 // The entry point of access requests.
+ghost use Rattle.tables.specs.Tables.{tables};
 ghost use Rattle.std.specs.Prelude.{◌≡◌};
-ghost use Rattle.tables.specs.Tables.{before, after};
 ghost use Rattle.tables.specs.Outcome.{outcome};
 ghost use Rattle.fs_access.specs.Access.{access_call, access_count};
 
@@ -21,8 +21,8 @@ pub fn access(
     e: u64,
     asked: Rights,
 ) -> Accessed
-    ensures reply { outcome result.reply (after system entries rulesets layers pool threads) ≡ access_call (before system entries rulesets layers pool threads) t e asked.0 }
-    ensures read { result.read ≡ access_count (before system entries rulesets layers pool threads) t e asked.0 }
+    ensures reply { outcome result.reply (tables system.now entries.now rulesets.now layers.now pool.now threads.now) ≡ access_call (tables system.now entries.now rulesets.now layers.now pool.now threads.now) t e asked.0 }
+    ensures read { result.read ≡ access_count (tables system.now entries.now rulesets.now layers.now pool.now threads.now) t e asked.0 }
 {
     if !sound::is_sound(system, entries, rulesets, layers, pool, threads) {
         return Accessed {

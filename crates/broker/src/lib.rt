@@ -3,8 +3,8 @@ pub mod entries;
 pub mod ports;
 pub mod tasks;
 
+ghost use Rattle.tables.specs.Tables.{tables};
 ghost use Rattle.std.specs.Prelude.{◌≡◌};
-ghost use Rattle.tables.specs.Tables.{before, after};
 ghost use Rattle.tables.specs.Fresh.{freshened};
 ghost use Rattle.tables.specs.Outcome.{outcome};
 
@@ -20,7 +20,7 @@ pub fn fresh(
     threads: &mut [u64],
     level: u64,
 ) -> Reply
-    ensures { outcome result (after system entries rulesets layers pool threads) ≡ freshened (before system entries rulesets layers pool threads) level }
+    ensures { outcome result (tables system.new entries.new rulesets.new layers.new pool.new threads.new) ≡ freshened (tables system.old entries.old rulesets.old layers.old pool.old threads.old) level }
 {
     fresh::fresh(system, entries, rulesets, layers, pool, threads, level)
 }

@@ -1,6 +1,6 @@
 // The entry point of port requests.
+ghost use Rattle.tables.specs.Tables.{tables};
 ghost use Rattle.std.specs.Prelude.{◌≡◌};
-ghost use Rattle.tables.specs.Tables.{before, after};
 ghost use Rattle.tables.specs.Outcome.{outcome};
 ghost use Rattle.net.specs.Port.{port_call};
 
@@ -19,7 +19,7 @@ pub fn port(
     port: u64,
     asked: Rights,
 ) -> Reply
-    ensures { outcome result (after system entries rulesets layers pool threads) ≡ port_call (before system entries rulesets layers pool threads) t port asked.0 }
+    ensures { outcome result (tables system.now entries.now rulesets.now layers.now pool.now threads.now) ≡ port_call (tables system.now entries.now rulesets.now layers.now pool.now threads.now) t port asked.0 }
 {
     if !sound::is_sound(system, entries, rulesets, layers, pool, threads) {
         return Reply::Refused(Errno::EIO);

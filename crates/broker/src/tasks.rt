@@ -1,6 +1,6 @@
 // The entry points of requests between threads.
+ghost use Rattle.tables.specs.Tables.{tables};
 ghost use Rattle.std.specs.Prelude.{◌≡◌};
-ghost use Rattle.tables.specs.Tables.{before, after};
 ghost use Rattle.tables.specs.Outcome.{outcome};
 ghost use Rattle.task.specs.Task.{task_call};
 
@@ -18,7 +18,7 @@ fn request(
     u: u64,
     scope: Scope,
 ) -> Reply
-    ensures { outcome result (after system entries rulesets layers pool threads) ≡ task_call (before system entries rulesets layers pool threads) t u scope }
+    ensures { outcome result (tables system.now entries.now rulesets.now layers.now pool.now threads.now) ≡ task_call (tables system.now entries.now rulesets.now layers.now pool.now threads.now) t u scope }
 {
     if !sound::is_sound(system, entries, rulesets, layers, pool, threads) {
         return Reply::Refused(Errno::EIO);
@@ -39,7 +39,7 @@ pub fn signal(
     t: u64,
     u: u64,
 ) -> Reply
-    ensures { outcome result (after system entries rulesets layers pool threads) ≡ task_call (before system entries rulesets layers pool threads) t u Scope.Signal }
+    ensures { outcome result (tables system.now entries.now rulesets.now layers.now pool.now threads.now) ≡ task_call (tables system.now entries.now rulesets.now layers.now pool.now threads.now) t u Scope.Signal }
 {
     request(
         system,
@@ -65,7 +65,7 @@ pub fn abstract_socket(
     t: u64,
     u: u64,
 ) -> Reply
-    ensures { outcome result (after system entries rulesets layers pool threads) ≡ task_call (before system entries rulesets layers pool threads) t u Scope.AbstractSocket }
+    ensures { outcome result (tables system.now entries.now rulesets.now layers.now pool.now threads.now) ≡ task_call (tables system.now entries.now rulesets.now layers.now pool.now threads.now) t u Scope.AbstractSocket }
 {
     request(
         system,

@@ -1,6 +1,6 @@
 // The entry points of layers and threads: each tests the tables first and answers EIO if they are not sound, then does the call. A refusal changes no cell.
+ghost use Rattle.tables.specs.Tables.{tables};
 ghost use Rattle.std.specs.Prelude.{◌≡◌};
-ghost use Rattle.tables.specs.Tables.{before, after};
 ghost use Rattle.tables.specs.Outcome.{outcome};
 ghost use Rattle.domain_restrict.specs.Restrict.{restrict_call};
 ghost use Rattle.domain.specs.Layer.{layer_read, layer_code, layer_part};
@@ -20,9 +20,9 @@ pub fn layer_rules<'a>(
     l: u64,
     code: &mut u64,
 ) -> &'a [u64]
-    ensures part { result.now ≡ layer_part (before system entries rulesets layers pool threads) l }
-    ensures answer { code.new ≡ layer_code (before system entries rulesets layers pool threads) l }
-    ensures left { after system entries rulesets layers pool threads ≡ (layer_read (before system entries rulesets layers pool threads) l).left }
+    ensures part { result.now ≡ layer_part (tables system.now entries.now rulesets.now layers.now pool.now threads.now) l }
+    ensures answer { code.new ≡ layer_code (tables system.now entries.now rulesets.now layers.now pool.now threads.now) l }
+    ensures left { tables system.now entries.now rulesets.now layers.now pool.now threads.now ≡ (layer_read (tables system.now entries.now rulesets.now layers.now pool.now threads.now) l).left }
 {
     domain_layer::layer_rules(system, entries, rulesets, layers, pool, threads, l, code)
 }
@@ -39,7 +39,7 @@ pub fn restrict(
     r: u64,
     flags: u64,
 ) -> Reply
-    ensures { outcome result (after system entries rulesets layers pool threads) ≡ restrict_call (before system entries rulesets layers pool threads) t r flags }
+    ensures { outcome result (tables system.new entries.now rulesets.now layers.new pool.new threads.new) ≡ restrict_call (tables system.old entries.now rulesets.now layers.old pool.old threads.old) t r flags }
 {
     if !sound::is_sound(system, entries, rulesets, layers, pool, threads) {
         return Reply::Refused(Errno::EIO);
@@ -59,7 +59,7 @@ pub fn clone_thread(
     threads: &mut [u64],
     t: u64,
 ) -> Reply
-    ensures { outcome result (after system entries rulesets layers pool threads) ≡ cloned (before system entries rulesets layers pool threads) t }
+    ensures { outcome result (tables system.now entries.now rulesets.now layers.new pool.now threads.new) ≡ cloned (tables system.now entries.now rulesets.now layers.old pool.now threads.old) t }
 {
     if !sound::is_sound(system, entries, rulesets, layers, pool, threads) {
         return Reply::Refused(Errno::EIO);
@@ -77,7 +77,7 @@ pub fn end_thread(
     threads: &mut [u64],
     t: u64,
 ) -> Reply
-    ensures { outcome result (after system entries rulesets layers pool threads) ≡ end_call (before system entries rulesets layers pool threads) t }
+    ensures { outcome result (tables system.new entries.now rulesets.now layers.new pool.new threads.new) ≡ end_call (tables system.old entries.now rulesets.now layers.old pool.old threads.old) t }
 {
     if !sound::is_sound(system, entries, rulesets, layers, pool, threads) {
         return Reply::Refused(Errno::EIO);
@@ -95,7 +95,7 @@ pub fn set_no_new_privs(
     threads: &mut [u64],
     t: u64,
 ) -> Reply
-    ensures { outcome result (after system entries rulesets layers pool threads) ≡ privs_set (before system entries rulesets layers pool threads) t }
+    ensures { outcome result (tables system.now entries.now rulesets.now layers.now pool.now threads.new) ≡ privs_set (tables system.now entries.now rulesets.now layers.now pool.now threads.old) t }
 {
     if !sound::is_sound(system, entries, rulesets, layers, pool, threads) {
         return Reply::Refused(Errno::EIO);
@@ -114,7 +114,7 @@ pub fn set_admin(
     t: u64,
     on: u64,
 ) -> Reply
-    ensures { outcome result (after system entries rulesets layers pool threads) ≡ admin_set (before system entries rulesets layers pool threads) t on }
+    ensures { outcome result (tables system.now entries.now rulesets.now layers.now pool.now threads.new) ≡ admin_set (tables system.now entries.now rulesets.now layers.now pool.now threads.old) t on }
 {
     if !sound::is_sound(system, entries, rulesets, layers, pool, threads) {
         return Reply::Refused(Errno::EIO);

@@ -1,6 +1,6 @@
 // The entry points of link, rename and exchange: each tests the tables first and answers EIO if they are not sound, then does the call. A refusal changes no cell.
+ghost use Rattle.tables.specs.Tables.{tables};
 ghost use Rattle.std.specs.Prelude.{◌≡◌};
-ghost use Rattle.tables.specs.Tables.{before, after};
 ghost use Rattle.tables.specs.Outcome.{outcome};
 ghost use Rattle.tree.specs.Link.{tree_link};
 ghost use Rattle.tree.specs.Rename.{tree_rename};
@@ -21,7 +21,7 @@ pub fn link(
     s: u64,
     d: u64,
 ) -> Reply
-    ensures { outcome result (after system entries rulesets layers pool threads) ≡ tree_link (before system entries rulesets layers pool threads) t s d }
+    ensures { outcome result (tables system.now entries.new rulesets.now layers.now pool.now threads.now) ≡ tree_link (tables system.now entries.old rulesets.now layers.now pool.now threads.now) t s d }
 {
     if !sound::is_sound(system, entries, rulesets, layers, pool, threads) {
         return Reply::Refused(Errno::EIO);
@@ -43,7 +43,7 @@ pub fn rename(
     d: u64,
     x: Replaced,
 ) -> Reply
-    ensures { outcome result (after system entries rulesets layers pool threads) ≡ tree_rename (before system entries rulesets layers pool threads) t s d x }
+    ensures { outcome result (tables system.now entries.new rulesets.now layers.now pool.now threads.now) ≡ tree_rename (tables system.now entries.old rulesets.now layers.now pool.now threads.now) t s d x }
 {
     if !sound::is_sound(system, entries, rulesets, layers, pool, threads) {
         return Reply::Refused(Errno::EIO);
@@ -64,7 +64,7 @@ pub fn exchange(
     d: u64,
     x: u64,
 ) -> Reply
-    ensures { outcome result (after system entries rulesets layers pool threads) ≡ tree_exchange (before system entries rulesets layers pool threads) t s d x }
+    ensures { outcome result (tables system.now entries.new rulesets.now layers.now pool.now threads.now) ≡ tree_exchange (tables system.now entries.old rulesets.now layers.now pool.now threads.now) t s d x }
 {
     if !sound::is_sound(system, entries, rulesets, layers, pool, threads) {
         return Reply::Refused(Errno::EIO);

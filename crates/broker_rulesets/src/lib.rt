@@ -1,6 +1,6 @@
 // The entry points of rulesets and rules: each tests the tables first and answers EIO if they are not sound, then does the call. A refusal changes no cell.
+ghost use Rattle.tables.specs.Tables.{tables};
 ghost use Rattle.std.specs.Prelude.{◌≡◌};
-ghost use Rattle.tables.specs.Tables.{before, after};
 ghost use Rattle.tables.specs.Outcome.{outcome};
 ghost use Rattle.ruleset.specs.Create.{created, closed};
 ghost use Rattle.rule.specs.Rule.{path_added, port_added};
@@ -19,7 +19,7 @@ pub fn create_ruleset(
     bytes: &[u8],
     flags: u64,
 ) -> Reply
-    ensures answer { outcome result (after system entries rulesets layers pool threads) ≡ created (before system entries rulesets layers pool threads) bytes.now flags }
+    ensures answer { outcome result (tables system.now entries.now rulesets.new layers.now pool.now threads.now) ≡ created (tables system.now entries.now rulesets.old layers.now pool.now threads.now) bytes.now flags }
     ensures bytes { bytes.now ≡ bytes.now }
 {
     if !sound::is_sound(system, entries, rulesets, layers, pool, threads) {
@@ -40,7 +40,7 @@ pub fn close_ruleset(
     threads: &[u64],
     r: u64,
 ) -> Reply
-    ensures { outcome result (after system entries rulesets layers pool threads) ≡ closed (before system entries rulesets layers pool threads) r }
+    ensures { outcome result (tables system.now entries.now rulesets.new layers.now pool.now threads.now) ≡ closed (tables system.now entries.now rulesets.old layers.now pool.now threads.now) r }
 {
     if !sound::is_sound(system, entries, rulesets, layers, pool, threads) {
         return Reply::Refused(Errno::EIO);
@@ -61,7 +61,7 @@ pub fn add_path_rule(
     rights: Rights,
     flags: u64,
 ) -> Reply
-    ensures { outcome result (after system entries rulesets layers pool threads) ≡ path_added (before system entries rulesets layers pool threads) r e rights.0 flags }
+    ensures { outcome result (tables system.now entries.now rulesets.new layers.now pool.now threads.now) ≡ path_added (tables system.now entries.now rulesets.old layers.now pool.now threads.now) r e rights.0 flags }
 {
     if !sound::is_sound(system, entries, rulesets, layers, pool, threads) {
         return Reply::Refused(Errno::EIO);
@@ -84,7 +84,7 @@ pub fn add_port_rule(
     rights: Rights,
     flags: u64,
 ) -> Reply
-    ensures { outcome result (after system entries rulesets layers pool threads) ≡ port_added (before system entries rulesets layers pool threads) r port rights.0 flags }
+    ensures { outcome result (tables system.now entries.now rulesets.new layers.now pool.now threads.now) ≡ port_added (tables system.now entries.now rulesets.old layers.now pool.now threads.now) r port rights.0 flags }
 {
     if !sound::is_sound(system, entries, rulesets, layers, pool, threads) {
         return Reply::Refused(Errno::EIO);

@@ -1,6 +1,6 @@
 // The entry point of create.
+ghost use Rattle.tables.specs.Tables.{tables};
 ghost use Rattle.std.specs.Prelude.{◌≡◌};
-ghost use Rattle.tables.specs.Tables.{before, after};
 ghost use Rattle.tables.specs.Outcome.{outcome};
 ghost use Rattle.tree.specs.Create.{tree_create};
 
@@ -18,7 +18,7 @@ pub fn create(
     d: u64,
     k: u64,
 ) -> Reply
-    ensures { outcome result (after system entries rulesets layers pool threads) ≡ tree_create (before system entries rulesets layers pool threads) t d k }
+    ensures { outcome result (tables system.new entries.new rulesets.now layers.now pool.now threads.now) ≡ tree_create (tables system.old entries.old rulesets.now layers.now pool.now threads.now) t d k }
 {
     if !sound::is_sound(system, entries, rulesets, layers, pool, threads) {
         return Reply::Refused(Errno::EIO);

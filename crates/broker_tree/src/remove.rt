@@ -1,6 +1,6 @@
 // The entry point of remove.
+ghost use Rattle.tables.specs.Tables.{tables};
 ghost use Rattle.std.specs.Prelude.{◌≡◌};
-ghost use Rattle.tables.specs.Tables.{before, after};
 ghost use Rattle.tables.specs.Outcome.{outcome};
 ghost use Rattle.tree.specs.Create.{tree_remove};
 
@@ -17,7 +17,7 @@ pub fn remove(
     t: u64,
     e: u64,
 ) -> Reply
-    ensures { outcome result (after system entries rulesets layers pool threads) ≡ tree_remove (before system entries rulesets layers pool threads) t e }
+    ensures { outcome result (tables system.now entries.new rulesets.now layers.now pool.now threads.now) ≡ tree_remove (tables system.now entries.old rulesets.now layers.now pool.now threads.now) t e }
 {
     if !sound::is_sound(system, entries, rulesets, layers, pool, threads) {
         return Reply::Refused(Errno::EIO);

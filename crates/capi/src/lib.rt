@@ -2,7 +2,7 @@
 // report: the layer that refused (its number + 1, or 0 for none) and what it denies, for access also how many entries' rules were read; a
 // shorter one gets the cells that it has.
 ghost use Rattle.std.specs.Prelude.{◌≡◌, cond, ◌*◌, min, eqb, length, set};
-ghost use Rattle.tables.specs.Tables.{rule_width};
+ghost use Rattle.tables.specs.Tables.{tables, rule_width};
 ghost use Rattle.tables.specs.Layers.{layer_first};
 ghost use Rattle.queue.specs.Queue.{queue, post, turn};
 ghost use Rattle.ruleset.specs.Create.{created, closed};
@@ -16,8 +16,7 @@ ghost use Rattle.net.specs.Port.{port_call};
 ghost use Rattle.task.specs.Task.{task_call};
 ghost use Rattle.task.specs.declared.Scope.TheVariants.{AbstractSocket, Signal};
 ghost use Rattle.names.specs.Paths.{path_checks, found, component};
-ghost use Rattle.named.specs.Named.{named_outcome, named_call, lift, lift_count, lift_part, freshened_named};
-ghost use Rattle.named.specs.Slices.{before, after};
+ghost use Rattle.named.specs.Named.{with_names, named_outcome, named_call, lift, lift_count, lift_part, freshened_named};
 ghost use Rattle.named.specs.Queue.{answer_of, turn_named};
 ghost use Rattle.named.specs.Batch.{batch_of, batch_named};
 ghost use Rattle.named.specs.Write.{write_named, written_out};
@@ -55,7 +54,7 @@ pub extern "C" fn skein_fresh(
     names: &mut [u8],
     level: u64,
 ) -> u64
-    ensures { Answers result (after system entries rulesets layers pool threads names) (freshened_named (before system entries rulesets layers pool threads names) level) }
+    ensures { Answers result (with_names (tables system.new entries.new rulesets.new layers.new pool.new threads.new) names.new) (freshened_named (with_names (tables system.old entries.old rulesets.old layers.old pool.old threads.old) names.old) level) }
 {
     number(syscalls::fresh(
         system, entries, rulesets, layers, pool, threads, names, level,
@@ -74,7 +73,7 @@ pub extern "C" fn skein_create_ruleset(
     bytes: &[u8],
     flags: u64,
 ) -> u64
-    ensures answer { Answers result (after system entries rulesets layers pool threads names) (lift (before system entries rulesets layers pool threads names) (created (before system entries rulesets layers pool threads names).core bytes.now flags)) }
+    ensures answer { Answers result (with_names (tables system.now entries.now rulesets.new layers.now pool.now threads.now) names.now) (lift (with_names (tables system.now entries.now rulesets.old layers.now pool.now threads.now) names.now) (created (with_names (tables system.now entries.now rulesets.old layers.now pool.now threads.now) names.now).core bytes.now flags)) }
     ensures bytes { bytes.now ≡ bytes.now }
 {
     number(syscalls_rulesets::create_ruleset(
@@ -93,7 +92,7 @@ pub extern "C" fn skein_close_ruleset(
     names: &[u8],
     r: u64,
 ) -> u64
-    ensures { Answers result (after system entries rulesets layers pool threads names) (lift (before system entries rulesets layers pool threads names) (closed (before system entries rulesets layers pool threads names).core r)) }
+    ensures { Answers result (with_names (tables system.now entries.now rulesets.new layers.now pool.now threads.now) names.now) (lift (with_names (tables system.now entries.now rulesets.old layers.now pool.now threads.now) names.now) (closed (with_names (tables system.now entries.now rulesets.old layers.now pool.now threads.now) names.now).core r)) }
 {
     number(syscalls_rulesets::close_ruleset(
         system, entries, rulesets, layers, pool, threads, names, r,
@@ -114,7 +113,7 @@ pub extern "C" fn skein_add_path_rule(
     rights: u64,
     flags: u64,
 ) -> u64
-    ensures { Answers result (after system entries rulesets layers pool threads names) (lift (before system entries rulesets layers pool threads names) (path_added (before system entries rulesets layers pool threads names).core r e rights flags)) }
+    ensures { Answers result (with_names (tables system.now entries.now rulesets.new layers.now pool.now threads.now) names.now) (lift (with_names (tables system.now entries.now rulesets.old layers.now pool.now threads.now) names.now) (path_added (with_names (tables system.now entries.now rulesets.old layers.now pool.now threads.now) names.now).core r e rights flags)) }
 {
     number(syscalls_rulesets::add_path_rule(
         system,
@@ -145,7 +144,7 @@ pub extern "C" fn skein_add_port_rule(
     rights: u64,
     flags: u64,
 ) -> u64
-    ensures { Answers result (after system entries rulesets layers pool threads names) (lift (before system entries rulesets layers pool threads names) (port_added (before system entries rulesets layers pool threads names).core r p rights flags)) }
+    ensures { Answers result (with_names (tables system.now entries.now rulesets.new layers.now pool.now threads.now) names.now) (lift (with_names (tables system.now entries.now rulesets.old layers.now pool.now threads.now) names.now) (port_added (with_names (tables system.now entries.now rulesets.old layers.now pool.now threads.now) names.now).core r p rights flags)) }
 {
     number(syscalls_rulesets::add_port_rule(
         system,
@@ -175,7 +174,7 @@ pub extern "C" fn skein_restrict(
     r: u64,
     flags: u64,
 ) -> u64
-    ensures { Answers result (after system entries rulesets layers pool threads names) (lift (before system entries rulesets layers pool threads names) (restrict_call (before system entries rulesets layers pool threads names).core t r flags)) }
+    ensures { Answers result (with_names (tables system.new entries.now rulesets.now layers.new pool.new threads.new) names.now) (lift (with_names (tables system.old entries.now rulesets.now layers.old pool.old threads.old) names.now) (restrict_call (with_names (tables system.old entries.now rulesets.now layers.old pool.old threads.old) names.now).core t r flags)) }
 {
     number(syscalls_domains::restrict(
         system, entries, rulesets, layers, pool, threads, names, t, r, flags,
@@ -193,7 +192,7 @@ pub extern "C" fn skein_clone(
     names: &[u8],
     t: u64,
 ) -> u64
-    ensures { Answers result (after system entries rulesets layers pool threads names) (lift (before system entries rulesets layers pool threads names) (cloned (before system entries rulesets layers pool threads names).core t)) }
+    ensures { Answers result (with_names (tables system.now entries.now rulesets.now layers.new pool.now threads.new) names.now) (lift (with_names (tables system.now entries.now rulesets.now layers.old pool.now threads.old) names.now) (cloned (with_names (tables system.now entries.now rulesets.now layers.old pool.now threads.old) names.now).core t)) }
 {
     number(syscalls_domains::clone_thread(
         system, entries, rulesets, layers, pool, threads, names, t,
@@ -211,7 +210,7 @@ pub extern "C" fn skein_end(
     names: &[u8],
     t: u64,
 ) -> u64
-    ensures { Answers result (after system entries rulesets layers pool threads names) (lift (before system entries rulesets layers pool threads names) (end_call (before system entries rulesets layers pool threads names).core t)) }
+    ensures { Answers result (with_names (tables system.new entries.now rulesets.now layers.new pool.new threads.new) names.now) (lift (with_names (tables system.old entries.now rulesets.now layers.old pool.old threads.old) names.now) (end_call (with_names (tables system.old entries.now rulesets.now layers.old pool.old threads.old) names.now).core t)) }
 {
     number(syscalls_domains::end_thread(system, entries, rulesets, layers, pool, threads, names, t))
 }
@@ -227,7 +226,7 @@ pub extern "C" fn skein_set_no_new_privs(
     names: &[u8],
     t: u64,
 ) -> u64
-    ensures { Answers result (after system entries rulesets layers pool threads names) (lift (before system entries rulesets layers pool threads names) (privs_set (before system entries rulesets layers pool threads names).core t)) }
+    ensures { Answers result (with_names (tables system.now entries.now rulesets.now layers.now pool.now threads.new) names.now) (lift (with_names (tables system.now entries.now rulesets.now layers.now pool.now threads.old) names.now) (privs_set (with_names (tables system.now entries.now rulesets.now layers.now pool.now threads.old) names.now).core t)) }
 {
     number(syscalls_domains::set_no_new_privs(
         system, entries, rulesets, layers, pool, threads, names, t,
@@ -246,7 +245,7 @@ pub extern "C" fn skein_set_admin(
     t: u64,
     on: u64,
 ) -> u64
-    ensures { Answers result (after system entries rulesets layers pool threads names) (lift (before system entries rulesets layers pool threads names) (admin_set (before system entries rulesets layers pool threads names).core t on)) }
+    ensures { Answers result (with_names (tables system.now entries.now rulesets.now layers.now pool.now threads.new) names.now) (lift (with_names (tables system.now entries.now rulesets.now layers.now pool.now threads.old) names.now) (admin_set (with_names (tables system.now entries.now rulesets.now layers.now pool.now threads.old) names.now).core t on)) }
 {
     number(syscalls_domains::set_admin(
         system, entries, rulesets, layers, pool, threads, names, t, on,
@@ -267,7 +266,7 @@ pub extern "C" fn skein_access(
     rights: u64,
     report: &mut [u64],
 ) -> u64
-    ensures { TellsAccess result (after system entries rulesets layers pool threads names) report.old report.new (lift (before system entries rulesets layers pool threads names) (access_call (before system entries rulesets layers pool threads names).core t e rights)) (lift_count (before system entries rulesets layers pool threads names) (access_count (before system entries rulesets layers pool threads names).core t e rights)) }
+    ensures { TellsAccess result (with_names (tables system.now entries.now rulesets.now layers.now pool.now threads.now) names.now) report.old report.new (lift (with_names (tables system.now entries.now rulesets.now layers.now pool.now threads.now) names.now) (access_call (with_names (tables system.now entries.now rulesets.now layers.now pool.now threads.now) names.now).core t e rights)) (lift_count (with_names (tables system.now entries.now rulesets.now layers.now pool.now threads.now) names.now) (access_count (with_names (tables system.now entries.now rulesets.now layers.now pool.now threads.now) names.now).core t e rights)) }
 {
     let accessed = syscalls::access(
         system,
@@ -300,7 +299,7 @@ pub extern "C" fn skein_port(
     rights: u64,
     report: &mut [u64],
 ) -> u64
-    ensures { Tells result (after system entries rulesets layers pool threads names) report.old report.new (lift (before system entries rulesets layers pool threads names) (port_call (before system entries rulesets layers pool threads names).core t p rights)) }
+    ensures { Tells result (with_names (tables system.now entries.now rulesets.now layers.now pool.now threads.now) names.now) report.old report.new (lift (with_names (tables system.now entries.now rulesets.now layers.now pool.now threads.now) names.now) (port_call (with_names (tables system.now entries.now rulesets.now layers.now pool.now threads.now) names.now).core t p rights)) }
 {
     let reply = syscalls::port(
         system,
@@ -330,7 +329,7 @@ pub extern "C" fn skein_signal(
     t: u64,
     u: u64,
 ) -> u64
-    ensures { Answers result (after system entries rulesets layers pool threads names) (lift (before system entries rulesets layers pool threads names) (task_call (before system entries rulesets layers pool threads names).core t u Signal)) }
+    ensures { Answers result (with_names (tables system.now entries.now rulesets.now layers.now pool.now threads.now) names.now) (lift (with_names (tables system.now entries.now rulesets.now layers.now pool.now threads.now) names.now) (task_call (with_names (tables system.now entries.now rulesets.now layers.now pool.now threads.now) names.now).core t u Signal)) }
 {
     number(syscalls::signal(
         system, entries, rulesets, layers, pool, threads, names, t, u,
@@ -349,7 +348,7 @@ pub extern "C" fn skein_abstract_socket(
     t: u64,
     u: u64,
 ) -> u64
-    ensures { Answers result (after system entries rulesets layers pool threads names) (lift (before system entries rulesets layers pool threads names) (task_call (before system entries rulesets layers pool threads names).core t u AbstractSocket)) }
+    ensures { Answers result (with_names (tables system.now entries.now rulesets.now layers.now pool.now threads.now) names.now) (lift (with_names (tables system.now entries.now rulesets.now layers.now pool.now threads.now) names.now) (task_call (with_names (tables system.now entries.now rulesets.now layers.now pool.now threads.now) names.now).core t u AbstractSocket)) }
 {
     number(syscalls::abstract_socket(
         system, entries, rulesets, layers, pool, threads, names, t, u,
@@ -373,8 +372,8 @@ pub extern "C" fn skein_create(
     used: &mut u64,
     report: &mut [u64],
 ) -> u64
-    ensures answer { Tells result (after system entries rulesets layers pool threads names) report.old report.new (logged_outcome (before system entries rulesets layers pool threads names) (log_of log.old used.old) t (create k d name.now)) }
-    ensures log { log_of log.new used.new ≡ logged_log (before system entries rulesets layers pool threads names) (log_of log.old used.old) t (create k d name.now) }
+    ensures answer { Tells result (with_names (tables system.new entries.new rulesets.now layers.now pool.now threads.now) names.new) report.old report.new (logged_outcome (with_names (tables system.old entries.old rulesets.now layers.now pool.now threads.now) names.old) (log_of log.old used.old) t (create k d name.now)) }
+    ensures log { log_of log.new used.new ≡ logged_log (with_names (tables system.old entries.old rulesets.now layers.now pool.now threads.now) names.old) (log_of log.old used.old) t (create k d name.now) }
 {
     let reply = syscalls_log_tree::create(
         system, entries, rulesets, layers, pool, threads, names, t, d, k, name, log, used,
@@ -398,8 +397,8 @@ pub extern "C" fn skein_remove(
     used: &mut u64,
     report: &mut [u64],
 ) -> u64
-    ensures answer { Tells result (after system entries rulesets layers pool threads names) report.old report.new (logged_outcome (before system entries rulesets layers pool threads names) (log_of log.old used.old) t (remove e)) }
-    ensures log { log_of log.new used.new ≡ logged_log (before system entries rulesets layers pool threads names) (log_of log.old used.old) t (remove e) }
+    ensures answer { Tells result (with_names (tables system.now entries.new rulesets.now layers.now pool.now threads.now) names.new) report.old report.new (logged_outcome (with_names (tables system.now entries.old rulesets.now layers.now pool.now threads.now) names.old) (log_of log.old used.old) t (remove e)) }
+    ensures log { log_of log.new used.new ≡ logged_log (with_names (tables system.now entries.old rulesets.now layers.now pool.now threads.now) names.old) (log_of log.old used.old) t (remove e) }
 {
     let reply = syscalls_log_tree::remove(
         system, entries, rulesets, layers, pool, threads, names, t, e, log, used,
@@ -425,8 +424,8 @@ pub extern "C" fn skein_link(
     used: &mut u64,
     report: &mut [u64],
 ) -> u64
-    ensures answer { Tells result (after system entries rulesets layers pool threads names) report.old report.new (logged_outcome (before system entries rulesets layers pool threads names) (log_of log.old used.old) t (link s d name.now)) }
-    ensures log { log_of log.new used.new ≡ logged_log (before system entries rulesets layers pool threads names) (log_of log.old used.old) t (link s d name.now) }
+    ensures answer { Tells result (with_names (tables system.now entries.new rulesets.now layers.now pool.now threads.now) names.new) report.old report.new (logged_outcome (with_names (tables system.now entries.old rulesets.now layers.now pool.now threads.now) names.old) (log_of log.old used.old) t (link s d name.now)) }
+    ensures log { log_of log.new used.new ≡ logged_log (with_names (tables system.now entries.old rulesets.now layers.now pool.now threads.now) names.old) (log_of log.old used.old) t (link s d name.now) }
 {
     let reply = syscalls_log_link::link(
         system, entries, rulesets, layers, pool, threads, names, t, s, d, name, log, used,
@@ -452,8 +451,8 @@ pub extern "C" fn skein_rename(
     used: &mut u64,
     report: &mut [u64],
 ) -> u64
-    ensures answer { Tells result (after system entries rulesets layers pool threads names) report.old report.new (logged_outcome (before system entries rulesets layers pool threads names) (log_of log.old used.old) t (rename s d name.now)) }
-    ensures log { log_of log.new used.new ≡ logged_log (before system entries rulesets layers pool threads names) (log_of log.old used.old) t (rename s d name.now) }
+    ensures answer { Tells result (with_names (tables system.now entries.new rulesets.now layers.now pool.now threads.now) names.new) report.old report.new (logged_outcome (with_names (tables system.now entries.old rulesets.now layers.now pool.now threads.now) names.old) (log_of log.old used.old) t (rename s d name.now)) }
+    ensures log { log_of log.new used.new ≡ logged_log (with_names (tables system.now entries.old rulesets.now layers.now pool.now threads.now) names.old) (log_of log.old used.old) t (rename s d name.now) }
 {
     let reply = syscalls_log_moves::rename(
         system, entries, rulesets, layers, pool, threads, names, t, s, d, name, log, used,
@@ -479,8 +478,8 @@ pub extern "C" fn skein_exchange(
     used: &mut u64,
     report: &mut [u64],
 ) -> u64
-    ensures answer { Tells result (after system entries rulesets layers pool threads names) report.old report.new (logged_outcome (before system entries rulesets layers pool threads names) (log_of log.old used.old) t (exchange s d x)) }
-    ensures log { log_of log.new used.new ≡ logged_log (before system entries rulesets layers pool threads names) (log_of log.old used.old) t (exchange s d x) }
+    ensures answer { Tells result (with_names (tables system.now entries.new rulesets.now layers.now pool.now threads.now) names.new) report.old report.new (logged_outcome (with_names (tables system.now entries.old rulesets.now layers.now pool.now threads.now) names.old) (log_of log.old used.old) t (exchange s d x)) }
+    ensures log { log_of log.new used.new ≡ logged_log (with_names (tables system.now entries.old rulesets.now layers.now pool.now threads.now) names.old) (log_of log.old used.old) t (exchange s d x) }
 {
     let reply = syscalls_log_moves::exchange(
         system, entries, rulesets, layers, pool, threads, names, t, s, d, x, log, used,
@@ -500,7 +499,7 @@ pub extern "C" fn skein_replay(
     names: &mut [u8],
     log: &[u8],
 ) -> u64
-    ensures { Answers result (after system entries rulesets layers pool threads names) (replay_named (before system entries rulesets layers pool threads names) log.now) }
+    ensures { Answers result (with_names (tables system.new entries.new rulesets.now layers.now pool.now threads.now) names.new) (replay_named (with_names (tables system.old entries.old rulesets.now layers.now pool.now threads.now) names.old) log.now) }
 {
     number(syscalls_replay::replay(system, entries, rulesets, layers, pool, threads, names, log))
 }
@@ -518,8 +517,8 @@ pub extern "C" fn skein_layer_rules(
     l: u64,
     span: &mut [u64],
 ) -> u64
-    ensures answer { Answers result (after system entries rulesets layers pool threads names) (lift (before system entries rulesets layers pool threads names) (layer_read (before system entries rulesets layers pool threads names).core l)) }
-    ensures part { span.new ≡ set (set span.old 0 (lift_count (before system entries rulesets layers pool threads names) (span_from (before system entries rulesets layers pool threads names).core l))) 1 (length (lift_part (before system entries rulesets layers pool threads names) (layer_part (before system entries rulesets layers pool threads names).core l))) }
+    ensures answer { Answers result (with_names (tables system.now entries.now rulesets.now layers.now pool.now threads.now) names.now) (lift (with_names (tables system.now entries.now rulesets.now layers.now pool.now threads.now) names.now) (layer_read (with_names (tables system.now entries.now rulesets.now layers.now pool.now threads.now) names.now).core l)) }
+    ensures part { span.new ≡ set (set span.old 0 (lift_count (with_names (tables system.now entries.now rulesets.now layers.now pool.now threads.now) names.now) (span_from (with_names (tables system.now entries.now rulesets.now layers.now pool.now threads.now) names.now).core l))) 1 (length (lift_part (with_names (tables system.now entries.now rulesets.now layers.now pool.now threads.now) names.now) (layer_part (with_names (tables system.now entries.now rulesets.now layers.now pool.now threads.now) names.now).core l))) }
 {
     let mut code = 0;
     let rules = syscalls_domains::layer_rules(
@@ -542,7 +541,7 @@ pub extern "C" fn skein_lookup(
     names: &[u8],
     path: &[u8],
 ) -> u64
-    ensures { Answers result (after system entries rulesets layers pool threads names) (named_call (before system entries rulesets layers pool threads names) (path_checks path.now) (named_outcome (found entries.now names.now path.now) (before system entries rulesets layers pool threads names))) }
+    ensures { Answers result (with_names (tables system.now entries.now rulesets.now layers.now pool.now threads.now) names.now) (named_call (with_names (tables system.now entries.now rulesets.now layers.now pool.now threads.now) names.now) (path_checks path.now) (named_outcome (found entries.now names.now path.now) (with_names (tables system.now entries.now rulesets.now layers.now pool.now threads.now) names.now))) }
 {
     number(syscalls::lookup(
         system, entries, rulesets, layers, pool, threads, names, path,
@@ -594,8 +593,8 @@ pub extern "C" fn skein_turn(
     answers: &mut [u64],
     cursor: &mut u64,
 ) -> u64
-    ensures answer { Answers result (after system entries rulesets layers pool threads names) (turn_named (before system entries rulesets layers pool threads names) (queue requests.now states.old answers.old cursor.old)) }
-    ensures queue { queue requests.now states.new answers.new cursor.new ≡ (turn (answer_of (before system entries rulesets layers pool threads names)) (queue requests.now states.old answers.old cursor.old)).left }
+    ensures answer { Answers result (with_names (tables system.now entries.now rulesets.now layers.now pool.now threads.now) names.now) (turn_named (with_names (tables system.now entries.now rulesets.now layers.now pool.now threads.now) names.now) (queue requests.now states.old answers.old cursor.old)) }
+    ensures queue { queue requests.now states.new answers.new cursor.new ≡ (turn (answer_of (with_names (tables system.now entries.now rulesets.now layers.now pool.now threads.now) names.now)) (queue requests.now states.old answers.old cursor.old)).left }
 {
     let round = queue_turn::turn(
         system, entries, rulesets, layers, pool, threads, names, requests, states, answers, *cursor,
@@ -619,8 +618,8 @@ pub extern "C" fn skein_batch(
     asked: &[u8],
     answers: &mut [u64],
 ) -> u64
-    ensures answer { Answers result (after system entries rulesets layers pool threads names) (batch_named (before system entries rulesets layers pool threads names) requests.now asked.now answers.old) }
-    ensures answers { answers.new ≡ (batch_of (before system entries rulesets layers pool threads names) requests.now asked.now answers.old).answers }
+    ensures answer { Answers result (with_names (tables system.now entries.now rulesets.now layers.now pool.now threads.now) names.now) (batch_named (with_names (tables system.now entries.now rulesets.now layers.now pool.now threads.now) names.now) requests.now asked.now answers.old) }
+    ensures answers { answers.new ≡ (batch_of (with_names (tables system.now entries.now rulesets.now layers.now pool.now threads.now) names.now) requests.now asked.now answers.old).answers }
 {
     number(syscalls_batch::batch(
         system, entries, rulesets, layers, pool, threads, names, requests, asked, answers,
@@ -656,7 +655,7 @@ pub extern "C" fn skein_apply_policy<'a>(
     name: &[u8],
     report: &mut [u64],
 ) -> u64
-    ensures { AppliesPolicy result (before system entries rulesets layers pool threads names) (after system entries rulesets layers pool threads names) report.old report.new stock.now site.now name.now }
+    ensures { AppliesPolicy result (with_names (tables system.now entries.now rulesets.old layers.now pool.now threads.now) names.now) (with_names (tables system.now entries.now rulesets.new layers.now pool.now threads.now) names.now) report.old report.new stock.now site.now name.now }
 {
     number(syscalls_policy::apply_policy(
         system, entries, rulesets, layers, pool, threads, names, stock, site, name, report,
@@ -677,8 +676,8 @@ pub extern "C" fn skein_write_policy(
     name: &[u8],
     out: &mut [u8],
 ) -> u64
-    ensures answer { Answers result (after system entries rulesets layers pool threads names) (write_named (before system entries rulesets layers pool threads names) r name.now out.old) }
-    ensures output { out.new ≡ written_out (before system entries rulesets layers pool threads names) r name.now out.old }
+    ensures answer { Answers result (with_names (tables system.now entries.now rulesets.now layers.now pool.now threads.now) names.now) (write_named (with_names (tables system.now entries.now rulesets.now layers.now pool.now threads.now) names.now) r name.now out.old) }
+    ensures output { out.new ≡ written_out (with_names (tables system.now entries.now rulesets.now layers.now pool.now threads.now) names.now) r name.now out.old }
 {
     number(syscalls_write::write_policy(
         system, entries, rulesets, layers, pool, threads, names, r, name, out,

@@ -2,7 +2,7 @@
 ghost use Rattle.std.specs.Prelude.{◌≡◌, true, ◌+◌, ◌-◌, ◌≤◌};
 ghost use Rattle.laws.specs.Refusals.{first};
 ghost use Rattle.access.specs.Limits.{max_layers, max_threads};
-ghost use Rattle.tables.specs.Tables.{tables, before, after};
+ghost use Rattle.tables.specs.Tables.{tables};
 ghost use Rattle.tables.specs.Layers.{layer_holders};
 ghost use Rattle.tables.specs.Outcome.{outcome, answer};
 ghost use Rattle.sound.specs.Sound.{sound};
@@ -39,7 +39,7 @@ fn clone_checks(
     threads: &[u64],
     t: u64,
 ) -> u64
-    ensures { result ≡ first (clone_checks (before system entries rulesets layers pool threads) t) }
+    ensures { result ≡ first (clone_checks (tables system.now entries.now rulesets.now layers.now pool.now threads.now) t) }
 {
     if !thread_live(threads, t) {
         return Errno::ESRCH.0;
@@ -92,7 +92,7 @@ pub fn clone_thread(
     t: u64,
 ) -> Reply
     requires { sound (tables system.now entries.now rulesets.now layers.old pool.now threads.old) ≡ true }
-    ensures { outcome result (after system entries rulesets layers pool threads) ≡ answer (before system entries rulesets layers pool threads) (clone_checks (before system entries rulesets layers pool threads) t) (clone_done (before system entries rulesets layers pool threads) t) }
+    ensures { outcome result (tables system.now entries.now rulesets.now layers.new pool.now threads.new) ≡ answer (tables system.now entries.now rulesets.now layers.old pool.now threads.old) (clone_checks (tables system.now entries.now rulesets.now layers.old pool.now threads.old) t) (clone_done (tables system.now entries.now rulesets.now layers.old pool.now threads.old) t) }
 {
     let e = clone_checks(system, entries, rulesets, layers, pool, threads, t);
     if e != 0 {

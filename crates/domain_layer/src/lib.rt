@@ -1,6 +1,6 @@
 // One layer's rules, as a part of the pool.
+ghost use Rattle.tables.specs.Tables.{tables};
 ghost use Rattle.std.specs.Prelude.{◌≡◌};
-ghost use Rattle.tables.specs.Tables.{before, after};
 ghost use Rattle.domain.specs.Layer.{layer_read, layer_code, layer_part};
 
 use access::errno::Errno;
@@ -15,7 +15,7 @@ fn layer_code(
     threads: &[u64],
     l: u64,
 ) -> u64
-    ensures { result ≡ layer_code (before system entries rulesets layers pool threads) l }
+    ensures { result ≡ layer_code (tables system.now entries.now rulesets.now layers.now pool.now threads.now) l }
 {
     if !sound::is_sound(system, entries, rulesets, layers, pool, threads) {
         return Errno::EIO.0;
@@ -38,9 +38,9 @@ pub fn layer_rules<'a>(
     l: u64,
     code: &mut u64,
 ) -> &'a [u64]
-    ensures part { result.now ≡ layer_part (before system entries rulesets layers pool threads) l }
-    ensures answer { code.new ≡ layer_code (before system entries rulesets layers pool threads) l }
-    ensures left { after system entries rulesets layers pool threads ≡ (layer_read (before system entries rulesets layers pool threads) l).left }
+    ensures part { result.now ≡ layer_part (tables system.now entries.now rulesets.now layers.now pool.now threads.now) l }
+    ensures answer { code.new ≡ layer_code (tables system.now entries.now rulesets.now layers.now pool.now threads.now) l }
+    ensures left { tables system.now entries.now rulesets.now layers.now pool.now threads.now ≡ (layer_read (tables system.now entries.now rulesets.now layers.now pool.now threads.now) l).left }
 {
     let c = layer_code(system, entries, rulesets, layers, pool, threads, l);
     *code = c;

@@ -1,7 +1,7 @@
 // A thread's marks.
 ghost use Rattle.std.specs.Prelude.{◌≡◌, cond, eqb};
 ghost use Rattle.laws.specs.Refusals.{first};
-ghost use Rattle.tables.specs.Tables.{before, after, privs_cell, admin_cell};
+ghost use Rattle.tables.specs.Tables.{tables, privs_cell, admin_cell};
 ghost use Rattle.tables.specs.Outcome.{outcome, answer};
 ghost use Rattle.domain.specs.Threads.{mark_checks, mark_done};
 
@@ -18,7 +18,7 @@ fn mark_checks(
     threads: &[u64],
     t: u64,
 ) -> u64
-    ensures { result ≡ first (mark_checks (before system entries rulesets layers pool threads) t) }
+    ensures { result ≡ first (mark_checks (tables system.now entries.now rulesets.now layers.now pool.now threads.now) t) }
 {
     if !thread_live(threads, t) {
         return Errno::ESRCH.0;
@@ -38,7 +38,7 @@ fn set_mark(
     k: usize,
     v: u64,
 ) -> Reply
-    ensures { outcome result (after system entries rulesets layers pool threads) ≡ answer (before system entries rulesets layers pool threads) (mark_checks (before system entries rulesets layers pool threads) t) (mark_done (before system entries rulesets layers pool threads) t k v) }
+    ensures { outcome result (tables system.now entries.now rulesets.now layers.now pool.now threads.new) ≡ answer (tables system.now entries.now rulesets.now layers.now pool.now threads.old) (mark_checks (tables system.now entries.now rulesets.now layers.now pool.now threads.old) t) (mark_done (tables system.now entries.now rulesets.now layers.now pool.now threads.old) t k v) }
 {
     let e = mark_checks(system, entries, rulesets, layers, pool, threads, t);
     if e != 0 {
@@ -58,7 +58,7 @@ pub fn set_no_new_privs(
     threads: &mut [u64],
     t: u64,
 ) -> Reply
-    ensures { outcome result (after system entries rulesets layers pool threads) ≡ answer (before system entries rulesets layers pool threads) (mark_checks (before system entries rulesets layers pool threads) t) (mark_done (before system entries rulesets layers pool threads) t privs_cell 1) }
+    ensures { outcome result (tables system.now entries.now rulesets.now layers.now pool.now threads.new) ≡ answer (tables system.now entries.now rulesets.now layers.now pool.now threads.old) (mark_checks (tables system.now entries.now rulesets.now layers.now pool.now threads.old) t) (mark_done (tables system.now entries.now rulesets.now layers.now pool.now threads.old) t privs_cell 1) }
 {
     set_mark(
         system,
@@ -84,7 +84,7 @@ pub fn set_admin(
     t: u64,
     on: u64,
 ) -> Reply
-    ensures { outcome result (after system entries rulesets layers pool threads) ≡ answer (before system entries rulesets layers pool threads) (mark_checks (before system entries rulesets layers pool threads) t) (mark_done (before system entries rulesets layers pool threads) t admin_cell (cond (eqb on 0) 0 1)) }
+    ensures { outcome result (tables system.now entries.now rulesets.now layers.now pool.now threads.new) ≡ answer (tables system.now entries.now rulesets.now layers.now pool.now threads.old) (mark_checks (tables system.now entries.now rulesets.now layers.now pool.now threads.old) t) (mark_done (tables system.now entries.now rulesets.now layers.now pool.now threads.old) t admin_cell (cond (eqb on 0) 0 1)) }
 {
     let v = if on == 0 { 0 } else { 1 };
     set_mark(

@@ -1,7 +1,7 @@
 // When a thread is refused a new layer, made of a ruleset.
+ghost use Rattle.tables.specs.Tables.{tables};
 ghost use Rattle.std.specs.Prelude.{◌≡◌};
 ghost use Rattle.laws.specs.Refusals.{first};
-ghost use Rattle.tables.specs.Tables.{before};
 ghost use Rattle.domain_restrict.specs.Restrict.{unmarked, restrict_form, is_deep, no_room, restrict_room, restrict_checks};
 
 use access::errno::Errno;
@@ -79,7 +79,7 @@ fn restrict_room(
     t: u64,
     r: u64,
 ) -> u64
-    ensures { result ≡ first (restrict_room (before system entries rulesets layers pool threads) t r) }
+    ensures { result ≡ first (restrict_room (tables system.now entries.now rulesets.now layers.now pool.now threads.now) t r) }
 {
     if !ruleset_open(rulesets, r) {
         return Errno::EBADF.0;
@@ -104,7 +104,7 @@ pub fn restrict_checks(
     r: u64,
     flags: u64,
 ) -> u64
-    ensures { result ≡ first (restrict_checks (before system entries rulesets layers pool threads) t r flags) }
+    ensures { result ≡ first (restrict_checks (tables system.now entries.now rulesets.now layers.now pool.now threads.now) t r flags) }
 {
     let e = restrict_form(system, threads, t, flags);
     if e != 0 {

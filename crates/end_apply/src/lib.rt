@@ -1,7 +1,7 @@
 // The end of a thread: its row is free, and the layers that it alone reached are given back.
+ghost use Rattle.tables.specs.Tables.{tables};
 ghost use Rattle.std.specs.Prelude.{◌≡◌};
 ghost use Rattle.access.specs.Limits.{max_domain};
-ghost use Rattle.tables.specs.Tables.{before, after};
 ghost use Rattle.tables.specs.Outcome.{outcome, answer};
 ghost use Rattle.domain_end.specs.End.{put_layer, ended, end_checks, end_done};
 
@@ -24,7 +24,7 @@ fn put_layer(
     threads: &[u64],
     y: u64,
 )
-    ensures { after system entries rulesets layers pool threads ≡ put_layer max_domain (before system entries rulesets layers pool threads) y }
+    ensures { tables system.new entries.now rulesets.now layers.new pool.new threads.now ≡ put_layer max_domain (tables system.old entries.now rulesets.now layers.old pool.old threads.now) y }
 {
     let mut at = y;
     let mut n = MAX_DOMAIN;
@@ -60,7 +60,7 @@ fn apply_end(
     threads: &mut [u64],
     t: u64,
 )
-    ensures { after system entries rulesets layers pool threads ≡ ended (before system entries rulesets layers pool threads) t }
+    ensures { tables system.new entries.now rulesets.now layers.new pool.new threads.new ≡ ended (tables system.old entries.now rulesets.now layers.old pool.old threads.old) t }
 {
     let y = youngest_of(threads, t);
     zero_row(threads, THREAD_WIDTH, t as usize);
@@ -77,7 +77,7 @@ pub fn end_thread(
     threads: &mut [u64],
     t: u64,
 ) -> Reply
-    ensures { outcome result (after system entries rulesets layers pool threads) ≡ answer (before system entries rulesets layers pool threads) (end_checks (before system entries rulesets layers pool threads) t) (end_done (before system entries rulesets layers pool threads) t) }
+    ensures { outcome result (tables system.new entries.now rulesets.now layers.new pool.new threads.new) ≡ answer (tables system.old entries.now rulesets.now layers.old pool.old threads.old) (end_checks (tables system.old entries.now rulesets.now layers.old pool.old threads.old) t) (end_done (tables system.old entries.now rulesets.now layers.old pool.old threads.old) t) }
 {
     let e = end_checks(system, entries, rulesets, layers, pool, threads, t);
     if e != 0 {

@@ -1,8 +1,8 @@
 // A layer given back: its record is free, its run closed.
+ghost use Rattle.tables.specs.Tables.{tables};
 ghost use Rattle.std.specs.Prelude.{◌≡◌, ◌+◌, ◌-◌, ◌<◌, leb, length, get_or};
 ghost use Rattle.laws.specs.Cells.{zero_row};
 ghost use Rattle.access.specs.Limits.{max_layers};
-ghost use Rattle.tables.specs.Tables.{before, after};
 ghost use Rattle.domain_end.specs.End.{pool_closed, lower_one, lowered, released};
 
 use access::limits::MAX_LAYERS;
@@ -95,7 +95,7 @@ pub fn release(
     threads: &[u64],
     l: u64,
 )
-    ensures { after system entries rulesets layers pool threads ≡ released (before system entries rulesets layers pool threads) l }
+    ensures { tables system.new entries.now rulesets.now layers.new pool.new threads.now ≡ released (tables system.old entries.now rulesets.now layers.old pool.old threads.now) l }
 {
     let first = layer_first(layers, l);
     let count = layer_count(layers, l);

@@ -1,9 +1,9 @@
 // Fresh tables.
 #![tactic(auto)]
 
+ghost use Rattle.tables.specs.Tables.{tables};
 ghost use Rattle.std.specs.Prelude.{◌≡◌, length, set, replicate};
 ghost use Rattle.laws.specs.Refusals.{first};
-ghost use Rattle.tables.specs.Tables.{before, after};
 ghost use Rattle.tables.specs.Outcome.{outcome};
 ghost use Rattle.tables.specs.Fresh.{filled, fresh_checks, freshened};
 
@@ -21,7 +21,7 @@ fn fresh_checks(
     threads: &[u64],
     level: u64,
 ) -> u64
-    ensures { result ≡ first (fresh_checks (before system entries rulesets layers pool threads) level) }
+    ensures { result ≡ first (fresh_checks (tables system.now entries.now rulesets.now layers.now pool.now threads.now) level) }
 {
     let right = lengths_right(system, entries, rulesets, layers, pool, threads);
     let high = MAX_LEVEL < level;
@@ -51,7 +51,7 @@ fn fill(
     threads: &mut [u64],
     level: u64,
 )
-    ensures { after system entries rulesets layers pool threads ≡ filled (before system entries rulesets layers pool threads) level }
+    ensures { tables system.new entries.new rulesets.new layers.new pool.new threads.new ≡ filled (tables system.old entries.old rulesets.old layers.old pool.old threads.old) level }
 {
     clear_but_first(system, level);
     write(system, SYSTEM_COUNTER, 1);
@@ -72,7 +72,7 @@ pub fn fresh(
     threads: &mut [u64],
     level: u64,
 ) -> Reply
-    ensures { outcome result (after system entries rulesets layers pool threads) ≡ freshened (before system entries rulesets layers pool threads) level }
+    ensures { outcome result (tables system.new entries.new rulesets.new layers.new pool.new threads.new) ≡ freshened (tables system.old entries.old rulesets.old layers.old pool.old threads.old) level }
 {
     let e = fresh_checks(system, entries, rulesets, layers, pool, threads, level);
     if e != 0 {

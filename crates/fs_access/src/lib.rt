@@ -1,7 +1,7 @@
 // Access requests.
+ghost use Rattle.tables.specs.Tables.{tables};
 ghost use Rattle.std.specs.Prelude.{◌≡◌};
 ghost use Rattle.laws.specs.Refusals.{first};
-ghost use Rattle.tables.specs.Tables.{before, after};
 ghost use Rattle.tables.specs.Outcome.{outcome, answer};
 ghost use Rattle.judge.specs.Blame.{naming_entry};
 ghost use Rattle.fs_access.specs.Access.{access_names, access_mask, access_checks, access_reads};
@@ -57,8 +57,8 @@ pub fn access(
     e: u64,
     asked: Rights,
 ) -> Accessed
-    ensures reply { outcome result.reply (after system entries rulesets layers pool threads) ≡ naming_entry (before system entries rulesets layers pool threads) t e asked.0 (answer (before system entries rulesets layers pool threads) (access_checks (before system entries rulesets layers pool threads) t e asked.0) (outcome (Reply.Done 0) (before system entries rulesets layers pool threads))) }
-    ensures read { result.read ≡ access_reads (before system entries rulesets layers pool threads) t e asked.0 }
+    ensures reply { outcome result.reply (tables system.now entries.now rulesets.now layers.now pool.now threads.now) ≡ naming_entry (tables system.now entries.now rulesets.now layers.now pool.now threads.now) t e asked.0 (answer (tables system.now entries.now rulesets.now layers.now pool.now threads.now) (access_checks (tables system.now entries.now rulesets.now layers.now pool.now threads.now) t e asked.0) (outcome (Reply.Done 0) (tables system.now entries.now rulesets.now layers.now pool.now threads.now))) }
+    ensures read { result.read ≡ access_reads (tables system.now entries.now rulesets.now layers.now pool.now threads.now) t e asked.0 }
 {
     let a = access_names(entries, threads, t, e);
     if a != 0 {

@@ -1,7 +1,7 @@
 // What the tree calls answer whose field has no room in the log: their own refusals, in their order, or ENOSPC. They change no cell.
+ghost use Rattle.tables.specs.Tables.{tables};
 ghost use Rattle.std.specs.Prelude.{◌≡◌};
-ghost use Rattle.named.specs.Named.{named_outcome};
-ghost use Rattle.named.specs.Slices.{before};
+ghost use Rattle.named.specs.Named.{with_names, named_outcome};
 ghost use Rattle.named.specs.Tree.{create_named, remove_named, link_named, rename_named, exchange_named};
 ghost use Rattle.log_calls.specs.Logs.{without_room};
 
@@ -29,7 +29,7 @@ pub fn create_full(
     k: u64,
     name: &[u8],
 ) -> Reply
-    ensures { named_outcome result (before system entries rulesets layers pool threads names) ≡ without_room (before system entries rulesets layers pool threads names) (create_named (before system entries rulesets layers pool threads names) t d k name.now) }
+    ensures { named_outcome result (with_names (tables system.now entries.now rulesets.now layers.now pool.now threads.now) names.now) ≡ without_room (with_names (tables system.now entries.now rulesets.now layers.now pool.now threads.now) names.now) (create_named (with_names (tables system.now entries.now rulesets.now layers.now pool.now threads.now) names.now) t d k name.now) }
 {
     if !named_sound(system, entries, rulesets, layers, pool, threads, names) {
         return Reply::Refused(Errno::EIO);
@@ -51,7 +51,7 @@ pub fn remove_full(
     t: u64,
     e: u64,
 ) -> Reply
-    ensures { named_outcome result (before system entries rulesets layers pool threads names) ≡ without_room (before system entries rulesets layers pool threads names) (remove_named (before system entries rulesets layers pool threads names) t e) }
+    ensures { named_outcome result (with_names (tables system.now entries.now rulesets.now layers.now pool.now threads.now) names.now) ≡ without_room (with_names (tables system.now entries.now rulesets.now layers.now pool.now threads.now) names.now) (remove_named (with_names (tables system.now entries.now rulesets.now layers.now pool.now threads.now) names.now) t e) }
 {
     if !named_sound(system, entries, rulesets, layers, pool, threads, names) {
         return Reply::Refused(Errno::EIO);
@@ -72,7 +72,7 @@ pub fn link_full(
     d: u64,
     name: &[u8],
 ) -> Reply
-    ensures { named_outcome result (before system entries rulesets layers pool threads names) ≡ without_room (before system entries rulesets layers pool threads names) (link_named (before system entries rulesets layers pool threads names) t s d name.now) }
+    ensures { named_outcome result (with_names (tables system.now entries.now rulesets.now layers.now pool.now threads.now) names.now) ≡ without_room (with_names (tables system.now entries.now rulesets.now layers.now pool.now threads.now) names.now) (link_named (with_names (tables system.now entries.now rulesets.now layers.now pool.now threads.now) names.now) t s d name.now) }
 {
     if !named_sound(system, entries, rulesets, layers, pool, threads, names) {
         return Reply::Refused(Errno::EIO);
@@ -96,7 +96,7 @@ pub fn rename_full(
     d: u64,
     name: &[u8],
 ) -> Reply
-    ensures { named_outcome result (before system entries rulesets layers pool threads names) ≡ without_room (before system entries rulesets layers pool threads names) (rename_named (before system entries rulesets layers pool threads names) t s d name.now) }
+    ensures { named_outcome result (with_names (tables system.now entries.now rulesets.now layers.now pool.now threads.now) names.now) ≡ without_room (with_names (tables system.now entries.now rulesets.now layers.now pool.now threads.now) names.now) (rename_named (with_names (tables system.now entries.now rulesets.now layers.now pool.now threads.now) names.now) t s d name.now) }
 {
     if !named_sound(system, entries, rulesets, layers, pool, threads, names) {
         return Reply::Refused(Errno::EIO);
@@ -120,7 +120,7 @@ pub fn exchange_full(
     d: u64,
     x: u64,
 ) -> Reply
-    ensures { named_outcome result (before system entries rulesets layers pool threads names) ≡ without_room (before system entries rulesets layers pool threads names) (exchange_named (before system entries rulesets layers pool threads names) t s d x) }
+    ensures { named_outcome result (with_names (tables system.now entries.now rulesets.now layers.now pool.now threads.now) names.now) ≡ without_room (with_names (tables system.now entries.now rulesets.now layers.now pool.now threads.now) names.now) (exchange_named (with_names (tables system.now entries.now rulesets.now layers.now pool.now threads.now) names.now) t s d x) }
 {
     if !named_sound(system, entries, rulesets, layers, pool, threads, names) {
         return Reply::Refused(Errno::EIO);

@@ -1,6 +1,5 @@
 -- The calls on tables with names, the turn of a queue, batches, policy files applied and written, demand 3 for them, which layer their refusals name, and what names promise.
 pub mod Named
-pub mod Slices
 pub mod Tree
 pub mod Queue
 pub mod Batch

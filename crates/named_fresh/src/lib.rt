@@ -1,7 +1,7 @@
 // Fresh tables with names.
+ghost use Rattle.tables.specs.Tables.{tables};
 ghost use Rattle.std.specs.Prelude.{◌≡◌, length, replicate};
-ghost use Rattle.named.specs.Named.{named_outcome, freshened_named};
-ghost use Rattle.named.specs.Slices.{before, after};
+ghost use Rattle.named.specs.Named.{with_names, named_outcome, freshened_named};
 
 use access::errno::{Errno, Reply};
 use access::limits::MAX_ENTRIES;
@@ -28,7 +28,7 @@ pub fn fresh(
     names: &mut [u8],
     level: u64,
 ) -> Reply
-    ensures { named_outcome result (after system entries rulesets layers pool threads names) ≡ freshened_named (before system entries rulesets layers pool threads names) level }
+    ensures { named_outcome result (with_names (tables system.new entries.new rulesets.new layers.new pool.new threads.new) names.new) ≡ freshened_named (with_names (tables system.old entries.old rulesets.old layers.old pool.old threads.old) names.old) level }
 {
     if names.len() != NAME_WIDTH * MAX_ENTRIES {
         return Reply::Refused(Errno::EIO);

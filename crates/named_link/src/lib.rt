@@ -1,11 +1,11 @@
 // Entries linked on tables with names.
+ghost use Rattle.tables.specs.Tables.{tables};
 ghost use Rattle.std.specs.Prelude.{◌≡◌};
 ghost use Rattle.fs.specs.Blame.{move_reply, naming_move};
 ghost use Rattle.tree.specs.Entries.{free_entry, with_entries};
 ghost use Rattle.tree.specs.Moves.{link_move};
 ghost use Rattle.tree.specs.Link.{linked};
 ghost use Rattle.named.specs.Named.{with_names, named_outcome, named_answer, judged_by};
-ghost use Rattle.named.specs.Slices.{before, after};
 ghost use Rattle.named.specs.Tree.{link_named_checks, new_names};
 
 use access::errno::{Errno, Reply};
@@ -30,7 +30,7 @@ pub fn link_checks(
     e: usize,
 ) -> Reply
     requires { e ≡ free_entry entries.now }
-    ensures { result ≡ move_reply (before system entries rulesets layers pool threads names).core t (link_move entries.now s d) (link_named_checks (before system entries rulesets layers pool threads names) t s d name.now) }
+    ensures { result ≡ move_reply (with_names (tables system.now entries.now rulesets.now layers.now pool.now threads.now) names.now).core t (link_move entries.now s d) (link_named_checks (with_names (tables system.now entries.now rulesets.now layers.now pool.now threads.now) names.now) t s d name.now) }
 {
     let a = link_target(entries, threads, t, s, d);
     if a != 0 {
@@ -57,7 +57,7 @@ pub fn link(
     d: u64,
     name: &[u8],
 ) -> Reply
-    ensures { named_outcome result (after system entries rulesets layers pool threads names) ≡ judged_by (naming_move (before system entries rulesets layers pool threads names).core t (link_move entries.old s d)) (named_answer (before system entries rulesets layers pool threads names) (link_named_checks (before system entries rulesets layers pool threads names) t s d name.now) (named_outcome (Reply.Done (free_entry entries.old)) (with_names (with_entries (before system entries rulesets layers pool threads names).core (linked entries.old s d)) (new_names entries.old names.old name.now)))) }
+    ensures { named_outcome result (with_names (tables system.now entries.new rulesets.now layers.now pool.now threads.now) names.new) ≡ judged_by (naming_move (with_names (tables system.now entries.old rulesets.now layers.now pool.now threads.now) names.old).core t (link_move entries.old s d)) (named_answer (with_names (tables system.now entries.old rulesets.now layers.now pool.now threads.now) names.old) (link_named_checks (with_names (tables system.now entries.old rulesets.now layers.now pool.now threads.now) names.old) t s d name.now) (named_outcome (Reply.Done (free_entry entries.old)) (with_names (with_entries (with_names (tables system.now entries.old rulesets.now layers.now pool.now threads.now) names.old).core (linked entries.old s d)) (new_names entries.old names.old name.now)))) }
 {
     let e = free_entry(entries);
     let reply = link_checks(

@@ -9,7 +9,6 @@ ghost use Rattle.tree.specs.Rename.{moved};
 ghost use Rattle.tree.specs.Exchange.{exchange_checks, swapped};
 ghost use Rattle.names.specs.Names.{bearer};
 ghost use Rattle.named.specs.Named.{with_names, named_outcome, named_answer, judged_by};
-ghost use Rattle.named.specs.Slices.{before, after};
 ghost use Rattle.named.specs.Tree.{replaced_by, rename_named_checks, renamed_names, swapped_names};
 
 use access::errno::{Errno, Reply};
@@ -37,7 +36,7 @@ pub fn rename_checks(
     x: Replaced,
 ) -> Reply
     requires { x ≡ bearer entries.now names.now d name.now }
-    ensures { result ≡ move_reply (before system entries rulesets layers pool threads names).core t (rename_move entries.now s d x) (rename_named_checks (before system entries rulesets layers pool threads names) t s d name.now) }
+    ensures { result ≡ move_reply (with_names (tables system.now entries.now rulesets.now layers.now pool.now threads.now) names.now).core t (rename_move entries.now s d x) (rename_named_checks (with_names (tables system.now entries.now rulesets.now layers.now pool.now threads.now) names.now) t s d name.now) }
 {
     let a = link_target(entries, threads, t, s, d);
     if a != 0 {
@@ -64,7 +63,7 @@ pub fn rename(
     d: u64,
     name: &[u8],
 ) -> Reply
-    ensures { named_outcome result (after system entries rulesets layers pool threads names) ≡ judged_by (naming_move (before system entries rulesets layers pool threads names).core t (rename_move entries.old s d (replaced_by (before system entries rulesets layers pool threads names) d name.now))) (named_answer (before system entries rulesets layers pool threads names) (rename_named_checks (before system entries rulesets layers pool threads names) t s d name.now) (named_outcome (Reply.Done 0) (with_names (with_entries (before system entries rulesets layers pool threads names).core (moved entries.old s d (replaced_by (before system entries rulesets layers pool threads names) d name.now))) (renamed_names entries.old names.old s name.now (replaced_by (before system entries rulesets layers pool threads names) d name.now))))) }
+    ensures { named_outcome result (with_names (tables system.now entries.new rulesets.now layers.now pool.now threads.now) names.new) ≡ judged_by (naming_move (with_names (tables system.now entries.old rulesets.now layers.now pool.now threads.now) names.old).core t (rename_move entries.old s d (replaced_by (with_names (tables system.now entries.old rulesets.now layers.now pool.now threads.now) names.old) d name.now))) (named_answer (with_names (tables system.now entries.old rulesets.now layers.now pool.now threads.now) names.old) (rename_named_checks (with_names (tables system.now entries.old rulesets.now layers.now pool.now threads.now) names.old) t s d name.now) (named_outcome (Reply.Done 0) (with_names (with_entries (with_names (tables system.now entries.old rulesets.now layers.now pool.now threads.now) names.old).core (moved entries.old s d (replaced_by (with_names (tables system.now entries.old rulesets.now layers.now pool.now threads.now) names.old) d name.now))) (renamed_names entries.old names.old s name.now (replaced_by (with_names (tables system.now entries.old rulesets.now layers.now pool.now threads.now) names.old) d name.now))))) }
 {
     let x = bearer(entries, names, d, name);
     let reply = rename_checks(
@@ -93,7 +92,7 @@ pub fn exchange(
     x: u64,
 ) -> Reply
     requires { sound (tables system.now entries.old rulesets.now layers.now pool.now threads.now) ≡ true }
-    ensures { named_outcome result (after system entries rulesets layers pool threads names) ≡ judged_by (naming_move (before system entries rulesets layers pool threads names).core t (exchange_move entries.old s d x)) (named_answer (before system entries rulesets layers pool threads names) (exchange_checks (before system entries rulesets layers pool threads names).core t s d x) (named_outcome (Reply.Done 0) (with_names (with_entries (before system entries rulesets layers pool threads names).core (swapped entries.old s d x)) (swapped_names entries.old names.old s x)))) }
+    ensures { named_outcome result (with_names (tables system.now entries.new rulesets.now layers.now pool.now threads.now) names.new) ≡ judged_by (naming_move (with_names (tables system.now entries.old rulesets.now layers.now pool.now threads.now) names.old).core t (exchange_move entries.old s d x)) (named_answer (with_names (tables system.now entries.old rulesets.now layers.now pool.now threads.now) names.old) (exchange_checks (with_names (tables system.now entries.old rulesets.now layers.now pool.now threads.now) names.old).core t s d x) (named_outcome (Reply.Done 0) (with_names (with_entries (with_names (tables system.now entries.old rulesets.now layers.now pool.now threads.now) names.old).core (swapped entries.old s d x)) (swapped_names entries.old names.old s x)))) }
 {
     let reply = exchange_checks(system, entries, rulesets, layers, pool, threads, t, s, d, x);
     if reply.is_refused() {

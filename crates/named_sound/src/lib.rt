@@ -1,7 +1,7 @@
 // The soundness of all seven tables.
+ghost use Rattle.tables.specs.Tables.{tables};
 ghost use Rattle.std.specs.Prelude.{◌≡◌};
-ghost use Rattle.named.specs.Named.{named_sound};
-ghost use Rattle.named.specs.Slices.{before};
+ghost use Rattle.named.specs.Named.{with_names, named_sound};
 
 use sound::is_sound;
 use sound_names::names_sound;
@@ -15,7 +15,7 @@ pub fn named_sound(
     threads: &[u64],
     names: &[u8],
 ) -> bool
-    ensures { result ≡ named_sound (before system entries rulesets layers pool threads names) }
+    ensures { result ≡ named_sound (with_names (tables system.now entries.now rulesets.now layers.now pool.now threads.now) names.now) }
 {
     if !is_sound(system, entries, rulesets, layers, pool, threads) {
         return false;

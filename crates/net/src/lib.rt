@@ -1,7 +1,7 @@
 // Port requests.
+ghost use Rattle.tables.specs.Tables.{tables};
 ghost use Rattle.std.specs.Prelude.{◌≡◌};
 ghost use Rattle.laws.specs.Refusals.{first};
-ghost use Rattle.tables.specs.Tables.{before, after};
 ghost use Rattle.tables.specs.Outcome.{outcome, answer};
 ghost use Rattle.judge.specs.Blame.{naming_port};
 ghost use Rattle.net.specs.Port.{port_form, port_checks};
@@ -42,7 +42,7 @@ pub fn port(
     port: u64,
     asked: Rights,
 ) -> Reply
-    ensures { outcome result (after system entries rulesets layers pool threads) ≡ naming_port (before system entries rulesets layers pool threads) t port asked.0 (answer (before system entries rulesets layers pool threads) (port_checks (before system entries rulesets layers pool threads) t port asked.0) (outcome (Reply.Done 0) (before system entries rulesets layers pool threads))) }
+    ensures { outcome result (tables system.now entries.now rulesets.now layers.now pool.now threads.now) ≡ naming_port (tables system.now entries.now rulesets.now layers.now pool.now threads.now) t port asked.0 (answer (tables system.now entries.now rulesets.now layers.now pool.now threads.now) (port_checks (tables system.now entries.now rulesets.now layers.now pool.now threads.now) t port asked.0) (outcome (Reply.Done 0) (tables system.now entries.now rulesets.now layers.now pool.now threads.now))) }
 {
     let e = port_form(threads, t, port, asked);
     if e != 0 {

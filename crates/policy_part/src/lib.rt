@@ -5,7 +5,6 @@ ghost use Rattle.theorems.specs.Calls.{create_ruleset};
 ghost use Rattle.policy.specs.Meaning.{rules_of, attribute};
 ghost use Rattle.policy_walk.specs.Flat.{flatten};
 ghost use Rattle.named.specs.Named.{with_names, named_sound, named_outcome};
-ghost use Rattle.named.specs.Slices.{before, after};
 ghost use Rattle.named.specs.Policy.{on_named, applied};
 ghost use Rattle.policy_rule_add.specs.Added.{Soundly};
 
@@ -28,7 +27,7 @@ fn open_ruleset(
     part: &[u8],
 ) -> Reply
     requires { named_sound (with_names (tables system.now entries.now rulesets.old layers.now pool.now threads.now) names.now) ≡ true }
-    ensures { Soundly (on_named (before system entries rulesets layers pool threads names) (create_ruleset (attribute (level system.now) part.now) 0)) result (after system entries rulesets layers pool threads names) }
+    ensures { Soundly (on_named (with_names (tables system.now entries.now rulesets.old layers.now pool.now threads.now) names.now) (create_ruleset (attribute (level system.now) part.now) 0)) result (with_names (tables system.now entries.now rulesets.new layers.now pool.now threads.now) names.now) }
 {
     let masks = masks_of(part);
     if any_group(part) {
@@ -51,7 +50,7 @@ pub fn apply_part(
     part: &[u8],
 ) -> Reply
     requires { (named_sound (with_names (tables system.now entries.now rulesets.old layers.now pool.now threads.now) names.now) ≡ true) × (flatten (level system.now) part.now ≡ rules_of (level system.now) part.now) }
-    ensures { named_outcome result (after system entries rulesets layers pool threads names) ≡ applied (before system entries rulesets layers pool threads names) part.now }
+    ensures { named_outcome result (with_names (tables system.now entries.now rulesets.new layers.now pool.now threads.now) names.now) ≡ applied (with_names (tables system.now entries.now rulesets.old layers.now pool.now threads.now) names.now) part.now }
 {
     match open_ruleset(
         system, entries, rulesets, layers, pool, threads, names, part,

@@ -5,7 +5,6 @@ ghost use Rattle.ruleset.specs.Attribute.{number};
 ghost use Rattle.policy.specs.Grammar.{rights_size};
 ghost use Rattle.policy.specs.Meaning.{path, port};
 ghost use Rattle.named.specs.Named.{with_names, named_sound};
-ghost use Rattle.named.specs.Slices.{before, after};
 ghost use Rattle.named.specs.Policy.{add_rule};
 ghost use Rattle.policy_rule_add.specs.Added.{rule_in, Soundly};
 
@@ -53,7 +52,7 @@ fn add_path_rule(
     bytes: &[u8],
 ) -> Reply
     requires { named_sound (with_names (tables system.now entries.now rulesets.old layers.now pool.now threads.now) names.now) ≡ true }
-    ensures { Soundly (add_rule r (before system entries rulesets layers pool threads names) (path rights.0 bytes.now)) result (after system entries rulesets layers pool threads names) }
+    ensures { Soundly (add_rule r (with_names (tables system.now entries.now rulesets.old layers.now pool.now threads.now) names.now) (path rights.0 bytes.now)) result (with_names (tables system.now entries.now rulesets.new layers.now pool.now threads.now) names.now) }
 {
     match lookup(entries, names, bytes) {
         Reply::Done(e) => {
@@ -80,7 +79,7 @@ fn add_port_rule(
     p: u64,
 ) -> Reply
     requires { named_sound (with_names (tables system.now entries.now rulesets.old layers.now pool.now threads.now) names.now) ≡ true }
-    ensures { Soundly (add_rule r (before system entries rulesets layers pool threads names) (port rights.0 p)) result (after system entries rulesets layers pool threads names) }
+    ensures { Soundly (add_rule r (with_names (tables system.now entries.now rulesets.old layers.now pool.now threads.now) names.now) (port rights.0 p)) result (with_names (tables system.now entries.now rulesets.new layers.now pool.now threads.now) names.now) }
 {
     add_port(
         system, entries, rulesets, layers, pool, threads, r, p, rights, 0,
@@ -101,7 +100,7 @@ pub fn add_rule(
     value: &[u8],
 ) -> Reply
     requires { named_sound (with_names (tables system.now entries.now rulesets.old layers.now pool.now threads.now) names.now) ≡ true }
-    ensures { Soundly (add_rule r (before system entries rulesets layers pool threads names) (rule_in tag value.now)) result (after system entries rulesets layers pool threads names) }
+    ensures { Soundly (add_rule r (with_names (tables system.now entries.now rulesets.old layers.now pool.now threads.now) names.now) (rule_in tag value.now)) result (with_names (tables system.now entries.now rulesets.new layers.now pool.now threads.now) names.now) }
 {
     let rights = Rights(mask(value, 0));
     if tag == PATH_TAG {

@@ -3,7 +3,6 @@ ghost use Rattle.std.specs.Prelude.{◌≡◌, true};
 ghost use Rattle.tables.specs.Tables.{tables, level};
 ghost use Rattle.policy_walk.specs.Flat.{flatten};
 ghost use Rattle.named.specs.Named.{with_names, named_sound, named_outcome};
-ghost use Rattle.named.specs.Slices.{before, after};
 ghost use Rattle.named.specs.Policy.{add_rules};
 
 use access::errno::Reply;
@@ -26,7 +25,7 @@ pub fn add_rules(
     r: u64,
 ) -> Reply
     requires { named_sound (with_names (tables system.now entries.now rulesets.old layers.now pool.now threads.now) names.now) ≡ true }
-    ensures { named_outcome result (after system entries rulesets layers pool threads names) ≡ add_rules r (flatten (level system.now) part.now) (before system entries rulesets layers pool threads names) }
+    ensures { named_outcome result (with_names (tables system.now entries.now rulesets.new layers.now pool.now threads.now) names.now) ≡ add_rules r (flatten (level system.now) part.now) (with_names (tables system.now entries.now rulesets.old layers.now pool.now threads.now) names.now) }
 {
     let level = level_of(system);
     let end = part.len();

@@ -1,6 +1,7 @@
 // An answer to a request of the queue.
+ghost use Rattle.named.specs.Named.{with_names};
+ghost use Rattle.tables.specs.Tables.{tables};
 ghost use Rattle.std.specs.Prelude.{◌≡◌};
-ghost use Rattle.named.specs.Slices.{before};
 ghost use Rattle.named.specs.Queue.{answer_of};
 
 use access::rights::Rights;
@@ -20,7 +21,7 @@ pub fn answer(
     e: u64,
     m: u64,
 ) -> Answer
-    ensures { result ≡ answer_of (before system entries rulesets layers pool threads names) t e m }
+    ensures { result ≡ answer_of (with_names (tables system.now entries.now rulesets.now layers.now pool.now threads.now) names.now) t e m }
 {
     let accessed = syscalls::access(
         system,

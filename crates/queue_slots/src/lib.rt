@@ -1,8 +1,9 @@
 // Posts and turns over a queue of records: the slots are a slice of structs, and the cursor lies in a struct, each behind a `&mut`. The functions are thin:
 // they take the structs apart, call covered functions on numbers, and write back. Their proofs are walks by hand.
+ghost use Rattle.named.specs.Named.{with_names};
+ghost use Rattle.tables.specs.Tables.{tables};
 ghost use Rattle.std.specs.Prelude.{◌≡◌};
 ghost use Rattle.access.specs.Reply.{reply_to};
-ghost use Rattle.named.specs.Slices.{before};
 ghost use Rattle.named.specs.Queue.{answer_of};
 ghost use Rattle.queue.specs.Queue.{posted, turned};
 ghost use Rattle.queue.specs.Queue.{post as post_of, turn as turn_of};
@@ -74,7 +75,7 @@ fn ask<'t>(
     names: &'t [u8],
     request: Request,
 ) -> Answer
-    ensures { result ≡ answer_of (before system entries rulesets layers pool threads names) request.thread request.entry request.rights }
+    ensures { result ≡ answer_of (with_names (tables system.now entries.now rulesets.now layers.now pool.now threads.now) names.now) request.thread request.entry request.rights }
 {
     queue_answer::answer(
         system,
@@ -102,7 +103,7 @@ fn serve<'t, 'q, 's>(
     q: &'q mut Queue,
     slots: &'s mut [Slot],
 ) -> u64
-    ensures { turned (said_of result) (queue_of slots.new q.new.cursor) ≡ turn_of (answer_of (before system entries rulesets layers pool threads names)) (queue_of slots.old q.old.cursor) }
+    ensures { turned (said_of result) (queue_of slots.new q.new.cursor) ≡ turn_of (answer_of (with_names (tables system.now entries.now rulesets.now layers.now pool.now threads.now) names.now)) (queue_of slots.old q.old.cursor) }
 {
     let cursor = q.cursor;
     if slots.len() != 8 {
@@ -153,7 +154,7 @@ pub fn turn<'t, 'q, 's>(
     q: &'q mut Queue,
     slots: &'s mut [Slot],
 ) -> Served
-    ensures { turned result (queue_of slots.new q.new.cursor) ≡ turn_of (answer_of (before system entries rulesets layers pool threads names)) (queue_of slots.old q.old.cursor) }
+    ensures { turned result (queue_of slots.new q.new.cursor) ≡ turn_of (answer_of (with_names (tables system.now entries.now rulesets.now layers.now pool.now threads.now) names.now)) (queue_of slots.old q.old.cursor) }
 {
     said(serve(
         system, entries, rulesets, layers, pool, threads, names, q, slots,
@@ -180,7 +181,7 @@ pub fn turn_once<'t>(
     queue: Queue,
     slots: [Slot; 8],
 ) -> Turned
-    ensures { turned result.said (queue_of result.slots result.queue.cursor) ≡ turn_of (answer_of (before system entries rulesets layers pool threads names)) (queue_of slots queue.cursor) }
+    ensures { turned result.said (queue_of result.slots result.queue.cursor) ≡ turn_of (answer_of (with_names (tables system.now entries.now rulesets.now layers.now pool.now threads.now) names.now)) (queue_of slots queue.cursor) }
 {
     let mut q = queue;
     let mut left = slots;

@@ -1,9 +1,9 @@
 // A turn of the queue: the next waiting slot is answered from the tables.
+ghost use Rattle.tables.specs.Tables.{tables};
 ghost use Rattle.std.specs.Prelude.{◌≡◌};
 ghost use Rattle.queue.specs.Queue.{queue, turned, served_reply};
 ghost use Rattle.queue.specs.Queue.{serve as serve_of, turn as turn_of};
-ghost use Rattle.named.specs.Named.{named_outcome};
-ghost use Rattle.named.specs.Slices.{before, after};
+ghost use Rattle.named.specs.Named.{with_names, named_outcome};
 ghost use Rattle.named.specs.Queue.{answer_of, turn_named};
 
 use access::errno::Errno;
@@ -32,7 +32,7 @@ fn serve(
     answers: &mut [u64],
     slot: usize,
 )
-    ensures { queue requests.now states.new answers.new slot ≡ serve_of (answer_of (before system entries rulesets layers pool threads names)) (queue requests.now states.old answers.old slot) slot }
+    ensures { queue requests.now states.new answers.new slot ≡ serve_of (answer_of (with_names (tables system.now entries.now rulesets.now layers.now pool.now threads.now) names.now)) (queue requests.now states.old answers.old slot) slot }
 {
     let a = answer(
         system,
@@ -64,8 +64,8 @@ pub fn turn(
     answers: &mut [u64],
     cursor: u64,
 ) -> Round
-    ensures queue { turned result.said (queue requests.now states.new answers.new result.cursor) ≡ turn_of (answer_of (before system entries rulesets layers pool threads names)) (queue requests.now states.old answers.old cursor) }
-    ensures tables { named_outcome (served_reply result.said) (after system entries rulesets layers pool threads names) ≡ turn_named (before system entries rulesets layers pool threads names) (queue requests.now states.old answers.old cursor) }
+    ensures queue { turned result.said (queue requests.now states.new answers.new result.cursor) ≡ turn_of (answer_of (with_names (tables system.now entries.now rulesets.now layers.now pool.now threads.now) names.now)) (queue requests.now states.old answers.old cursor) }
+    ensures tables { named_outcome (served_reply result.said) (with_names (tables system.now entries.now rulesets.now layers.now pool.now threads.now) names.now) ≡ turn_named (with_names (tables system.now entries.now rulesets.now layers.now pool.now threads.now) names.now) (queue requests.now states.old answers.old cursor) }
 {
     if !queue_sound(requests, states, answers, cursor) {
         return Round {

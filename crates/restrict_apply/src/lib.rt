@@ -1,7 +1,7 @@
 // A thread given a new layer of a ruleset.
 ghost use Rattle.std.specs.Prelude.{◌≡◌, ◌+◌, ◌*◌, ◌≤◌, ◌<◌};
 ghost use Rattle.access.specs.Limits.{max_layers, max_pool};
-ghost use Rattle.tables.specs.Tables.{before, after, layers_used, pool_used};
+ghost use Rattle.tables.specs.Tables.{tables, layers_used, pool_used};
 ghost use Rattle.tables.specs.Layers.{ruleset_count};
 ghost use Rattle.tables.specs.Outcome.{outcome, answer};
 ghost use Rattle.domain_restrict.specs.Restrict.{restrict_checks, restricted, restrict_done};
@@ -27,7 +27,7 @@ fn apply_restrict(
     r: u64,
 )
     requires { (layers_used system.old < max_layers) × (pool_used system.old + ruleset_count rulesets.now r ≤ max_pool) }
-    ensures { after system entries rulesets layers pool threads ≡ restricted (before system entries rulesets layers pool threads) t r }
+    ensures { tables system.new entries.now rulesets.now layers.new pool.new threads.new ≡ restricted (tables system.old entries.now rulesets.now layers.old pool.old threads.old) t r }
 {
     let l = free_layer(layers);
     let p = pool_used(system);
@@ -53,7 +53,7 @@ pub fn restrict(
     r: u64,
     flags: u64,
 ) -> Reply
-    ensures { outcome result (after system entries rulesets layers pool threads) ≡ answer (before system entries rulesets layers pool threads) (restrict_checks (before system entries rulesets layers pool threads) t r flags) (restrict_done (before system entries rulesets layers pool threads) t r) }
+    ensures { outcome result (tables system.new entries.now rulesets.now layers.new pool.new threads.new) ≡ answer (tables system.old entries.now rulesets.now layers.old pool.old threads.old) (restrict_checks (tables system.old entries.now rulesets.now layers.old pool.old threads.old) t r flags) (restrict_done (tables system.old entries.now rulesets.now layers.old pool.old threads.old) t r) }
 {
     let e = restrict_checks(
         system, entries, rulesets, layers, pool, threads, t, r, flags,

@@ -1,7 +1,7 @@
 // When a rule, for a path or a port, is refused.
+ghost use Rattle.tables.specs.Tables.{tables};
 ghost use Rattle.std.specs.Prelude.{◌≡◌, ◌<◌};
 ghost use Rattle.laws.specs.Refusals.{first};
-ghost use Rattle.tables.specs.Tables.{before};
 ghost use Rattle.rule.specs.Rule.{place_in, add_form, is_full, sweeping, path_form, port_form, add_path_checks, add_port_checks};
 
 use access::errno::Errno;
@@ -108,7 +108,7 @@ pub fn add_path_checks(
     rights: Rights,
     flags: u64,
 ) -> u64
-    ensures { result ≡ first (add_path_checks (before system entries rulesets layers pool threads) r e rights.0 flags) }
+    ensures { result ≡ first (add_path_checks (tables system.now entries.now rulesets.now layers.now pool.now threads.now) r e rights.0 flags) }
 {
     let a = add_form(system, rulesets, r, rights, flags);
     if a != 0 {
@@ -129,7 +129,7 @@ pub fn add_port_checks(
     rights: Rights,
     flags: u64,
 ) -> u64
-    ensures { result ≡ first (add_port_checks (before system entries rulesets layers pool threads) r port rights.0 flags) }
+    ensures { result ≡ first (add_port_checks (tables system.now entries.now rulesets.now layers.now pool.now threads.now) r port rights.0 flags) }
 {
     let a = add_form(system, rulesets, r, rights, flags);
     if a != 0 {

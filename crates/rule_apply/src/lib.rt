@@ -1,7 +1,7 @@
 // Rules added to a ruleset.
 ghost use Rattle.std.specs.Prelude.{◌≡◌, ◌^◌, ◌<◌};
 ghost use Rattle.access.specs.Limits.{max_rules};
-ghost use Rattle.tables.specs.Tables.{before, after, object, path_rule, port_rule};
+ghost use Rattle.tables.specs.Tables.{tables, object, path_rule, port_rule};
 ghost use Rattle.tables.specs.Outcome.{outcome, answer};
 ghost use Rattle.rule.specs.Rule.{add_path_checks, add_port_checks, joined, appended, added, add_done};
 
@@ -70,7 +70,7 @@ pub fn add_path(
     rights: Rights,
     flags: u64,
 ) -> Reply
-    ensures { outcome result (after system entries rulesets layers pool threads) ≡ answer (before system entries rulesets layers pool threads) (add_path_checks (before system entries rulesets layers pool threads) r e rights.0 flags) (add_done (before system entries rulesets layers pool threads) r path_rule (object entries.now e) rights.0) }
+    ensures { outcome result (tables system.now entries.now rulesets.new layers.now pool.now threads.now) ≡ answer (tables system.now entries.now rulesets.old layers.now pool.now threads.now) (add_path_checks (tables system.now entries.now rulesets.old layers.now pool.now threads.now) r e rights.0 flags) (add_done (tables system.now entries.now rulesets.old layers.now pool.now threads.now) r path_rule (object entries.now e) rights.0) }
 {
     let a = add_path_checks(
         system, entries, rulesets, layers, pool, threads, r, e, rights, flags,
@@ -95,7 +95,7 @@ pub fn add_port(
     rights: Rights,
     flags: u64,
 ) -> Reply
-    ensures { outcome result (after system entries rulesets layers pool threads) ≡ answer (before system entries rulesets layers pool threads) (add_port_checks (before system entries rulesets layers pool threads) r port rights.0 flags) (add_done (before system entries rulesets layers pool threads) r port_rule port rights.0) }
+    ensures { outcome result (tables system.now entries.now rulesets.new layers.now pool.now threads.now) ≡ answer (tables system.now entries.now rulesets.old layers.now pool.now threads.now) (add_port_checks (tables system.now entries.now rulesets.old layers.now pool.now threads.now) r port rights.0 flags) (add_done (tables system.now entries.now rulesets.old layers.now pool.now threads.now) r port_rule port rights.0) }
 {
     let a = add_port_checks(
         system, entries, rulesets, layers, pool, threads, r, port, rights, flags,

@@ -1,7 +1,7 @@
 // When create is refused.
+ghost use Rattle.tables.specs.Tables.{tables};
 ghost use Rattle.std.specs.Prelude.{◌≡◌};
 ghost use Rattle.laws.specs.Refusals.{first};
-ghost use Rattle.tables.specs.Tables.{before};
 ghost use Rattle.ruleset.specs.Create.{free_ruleset, create_form, create_masks, create_checks};
 
 use crate::attribute::{FS_AT, NET_AT, SCOPE_AT, is_stray, known_size, mask};
@@ -75,7 +75,7 @@ pub fn create_checks(
     bytes: &[u8],
     flags: u64,
 ) -> u64
-    ensures { result ≡ first (create_checks (before system entries rulesets layers pool threads) bytes.now flags) }
+    ensures { result ≡ first (create_checks (tables system.now entries.now rulesets.now layers.now pool.now threads.now) bytes.now flags) }
 {
     let e = create_form(system, bytes, flags);
     if e != 0 {

@@ -1,7 +1,7 @@
 // Rulesets opened and closed.
+ghost use Rattle.tables.specs.Tables.{tables};
 ghost use Rattle.std.specs.Prelude.{◌≡◌};
 ghost use Rattle.laws.specs.Refusals.{first};
-ghost use Rattle.tables.specs.Tables.{before, after};
 ghost use Rattle.tables.specs.Outcome.{outcome, answer};
 ghost use Rattle.ruleset.specs.Attribute.{fs_mask, net_mask, scope_mask};
 ghost use Rattle.ruleset.specs.Create.{create_checks, opened, create_done, close_checks, closed_row, close_done};
@@ -36,7 +36,7 @@ fn close_checks(
     threads: &[u64],
     r: u64,
 ) -> u64
-    ensures { result ≡ first (close_checks (before system entries rulesets layers pool threads) r) }
+    ensures { result ≡ first (close_checks (tables system.now entries.now rulesets.now layers.now pool.now threads.now) r) }
 {
     if !ruleset_open(rulesets, r) {
         return Errno::EBADF.0;
@@ -64,7 +64,7 @@ pub fn create(
     bytes: &[u8],
     flags: u64,
 ) -> Reply
-    ensures answer { outcome result (after system entries rulesets layers pool threads) ≡ answer (before system entries rulesets layers pool threads) (create_checks (before system entries rulesets layers pool threads) bytes.now flags) (create_done (before system entries rulesets layers pool threads) bytes.now) }
+    ensures answer { outcome result (tables system.now entries.now rulesets.new layers.now pool.now threads.now) ≡ answer (tables system.now entries.now rulesets.old layers.now pool.now threads.now) (create_checks (tables system.now entries.now rulesets.old layers.now pool.now threads.now) bytes.now flags) (create_done (tables system.now entries.now rulesets.old layers.now pool.now threads.now) bytes.now) }
     ensures bytes { bytes.now ≡ bytes.now }
 {
     let e = create_checks(
@@ -88,7 +88,7 @@ pub fn close(
     threads: &[u64],
     r: u64,
 ) -> Reply
-    ensures { outcome result (after system entries rulesets layers pool threads) ≡ answer (before system entries rulesets layers pool threads) (close_checks (before system entries rulesets layers pool threads) r) (close_done (before system entries rulesets layers pool threads) r) }
+    ensures { outcome result (tables system.now entries.now rulesets.new layers.now pool.now threads.now) ≡ answer (tables system.now entries.now rulesets.old layers.now pool.now threads.now) (close_checks (tables system.now entries.now rulesets.old layers.now pool.now threads.now) r) (close_done (tables system.now entries.now rulesets.old layers.now pool.now threads.now) r) }
 {
     let e = close_checks(system, entries, rulesets, layers, pool, threads, r);
     if e != 0 {

@@ -1,7 +1,7 @@
 // The soundness test of the tables: what every call does first.
 ghost use Rattle.std.specs.Prelude.{◌≡◌, true, ◌*◌, length};
 ghost use Rattle.access.specs.Limits.{max_rulesets};
-ghost use Rattle.tables.specs.Tables.{system_width, ruleset_width, tables, before, lengths_right};
+ghost use Rattle.tables.specs.Tables.{system_width, ruleset_width, tables, lengths_right};
 ghost use Rattle.sound.specs.Sound.{system_sound, any_open, level_zero_sound, parts_sound, sound};
 
 use access::limits::{MAX_COUNTER, MAX_LEVEL, MAX_RULESETS};
@@ -73,7 +73,7 @@ fn parts_sound(
     threads: &[u64],
 ) -> bool
     requires { lengths_right (tables system.now entries.now rulesets.now layers.now pool.now threads.now) ≡ true }
-    ensures { result ≡ parts_sound (before system entries rulesets layers pool threads) }
+    ensures { result ≡ parts_sound (tables system.now entries.now rulesets.now layers.now pool.now threads.now) }
 {
     let level = system[SYSTEM_LEVEL];
     let next = system[SYSTEM_COUNTER];
@@ -119,7 +119,7 @@ pub fn is_sound(
     pool: &[u64],
     threads: &[u64],
 ) -> bool
-    ensures { result ≡ sound (before system entries rulesets layers pool threads) }
+    ensures { result ≡ sound (tables system.now entries.now rulesets.now layers.now pool.now threads.now) }
 {
     if !lengths_right(system, entries, rulesets, layers, pool, threads) {
         return false;

@@ -1,12 +1,12 @@
 // The entry points of fresh tables, requests and lookups, on tables with names: each but fresh answers EIO if the tables are not sound, then does the call.
+ghost use Rattle.tables.specs.Tables.{tables};
 ghost use Rattle.std.specs.Prelude.{◌≡◌};
 ghost use Rattle.fs_access.specs.Access.{access_call, access_count};
 ghost use Rattle.net.specs.Port.{port_call};
 ghost use Rattle.task.specs.Task.{task_call};
 ghost use Rattle.task.specs.declared.Scope.TheVariants.{AbstractSocket, Signal};
 ghost use Rattle.names.specs.Paths.{path_checks, found};
-ghost use Rattle.named.specs.Named.{named_outcome, named_call, lift, lift_count, freshened_named};
-ghost use Rattle.named.specs.Slices.{before, after};
+ghost use Rattle.named.specs.Named.{with_names, named_outcome, named_call, lift, lift_count, freshened_named};
 
 use access::errno::{Errno, Reply};
 use access::rights::Rights;
@@ -26,7 +26,7 @@ pub fn fresh(
     names: &mut [u8],
     level: u64,
 ) -> Reply
-    ensures { named_outcome result (after system entries rulesets layers pool threads names) ≡ freshened_named (before system entries rulesets layers pool threads names) level }
+    ensures { named_outcome result (with_names (tables system.new entries.new rulesets.new layers.new pool.new threads.new) names.new) ≡ freshened_named (with_names (tables system.old entries.old rulesets.old layers.old pool.old threads.old) names.old) level }
 {
     named_fresh::fresh(
         system, entries, rulesets, layers, pool, threads, names, level,
@@ -47,8 +47,8 @@ pub fn access(
     e: u64,
     asked: Rights,
 ) -> Accessed
-    ensures reply { named_outcome result.reply (after system entries rulesets layers pool threads names) ≡ lift (before system entries rulesets layers pool threads names) (access_call (before system entries rulesets layers pool threads names).core t e asked.0) }
-    ensures read { result.read ≡ lift_count (before system entries rulesets layers pool threads names) (access_count (before system entries rulesets layers pool threads names).core t e asked.0) }
+    ensures reply { named_outcome result.reply (with_names (tables system.now entries.now rulesets.now layers.now pool.now threads.now) names.now) ≡ lift (with_names (tables system.now entries.now rulesets.now layers.now pool.now threads.now) names.now) (access_call (with_names (tables system.now entries.now rulesets.now layers.now pool.now threads.now) names.now).core t e asked.0) }
+    ensures read { result.read ≡ lift_count (with_names (tables system.now entries.now rulesets.now layers.now pool.now threads.now) names.now) (access_count (with_names (tables system.now entries.now rulesets.now layers.now pool.now threads.now) names.now).core t e asked.0) }
 {
     if !names_sound(entries, names) {
         return Accessed {
@@ -74,7 +74,7 @@ pub fn port(
     port: u64,
     asked: Rights,
 ) -> Reply
-    ensures { named_outcome result (after system entries rulesets layers pool threads names) ≡ lift (before system entries rulesets layers pool threads names) (port_call (before system entries rulesets layers pool threads names).core t port asked.0) }
+    ensures { named_outcome result (with_names (tables system.now entries.now rulesets.now layers.now pool.now threads.now) names.now) ≡ lift (with_names (tables system.now entries.now rulesets.now layers.now pool.now threads.now) names.now) (port_call (with_names (tables system.now entries.now rulesets.now layers.now pool.now threads.now) names.now).core t port asked.0) }
 {
     if !names_sound(entries, names) {
         return Reply::Refused(Errno::EIO);
@@ -96,7 +96,7 @@ pub fn signal(
     t: u64,
     u: u64,
 ) -> Reply
-    ensures { named_outcome result (after system entries rulesets layers pool threads names) ≡ lift (before system entries rulesets layers pool threads names) (task_call (before system entries rulesets layers pool threads names).core t u Signal) }
+    ensures { named_outcome result (with_names (tables system.now entries.now rulesets.now layers.now pool.now threads.now) names.now) ≡ lift (with_names (tables system.now entries.now rulesets.now layers.now pool.now threads.now) names.now) (task_call (with_names (tables system.now entries.now rulesets.now layers.now pool.now threads.now) names.now).core t u Signal) }
 {
     if !names_sound(entries, names) {
         return Reply::Refused(Errno::EIO);
@@ -116,7 +116,7 @@ pub fn abstract_socket(
     t: u64,
     u: u64,
 ) -> Reply
-    ensures { named_outcome result (after system entries rulesets layers pool threads names) ≡ lift (before system entries rulesets layers pool threads names) (task_call (before system entries rulesets layers pool threads names).core t u AbstractSocket) }
+    ensures { named_outcome result (with_names (tables system.now entries.now rulesets.now layers.now pool.now threads.now) names.now) ≡ lift (with_names (tables system.now entries.now rulesets.now layers.now pool.now threads.now) names.now) (task_call (with_names (tables system.now entries.now rulesets.now layers.now pool.now threads.now) names.now).core t u AbstractSocket) }
 {
     if !names_sound(entries, names) {
         return Reply::Refused(Errno::EIO);
@@ -135,7 +135,7 @@ pub fn lookup(
     names: &[u8],
     path: &[u8],
 ) -> Reply
-    ensures { named_outcome result (after system entries rulesets layers pool threads names) ≡ named_call (before system entries rulesets layers pool threads names) (path_checks path.now) (named_outcome (found entries.now names.now path.now) (before system entries rulesets layers pool threads names)) }
+    ensures { named_outcome result (with_names (tables system.now entries.now rulesets.now layers.now pool.now threads.now) names.now) ≡ named_call (with_names (tables system.now entries.now rulesets.now layers.now pool.now threads.now) names.now) (path_checks path.now) (named_outcome (found entries.now names.now path.now) (with_names (tables system.now entries.now rulesets.now layers.now pool.now threads.now) names.now)) }
 {
     if !named_sound(system, entries, rulesets, layers, pool, threads, names) {
         return Reply::Refused(Errno::EIO);

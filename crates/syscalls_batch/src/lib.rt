@@ -1,11 +1,11 @@
 // The entry point of batches, on tables with names: soundness is tested once for all requests.
+ghost use Rattle.tables.specs.Tables.{tables};
 ghost use Rattle.std.specs.Prelude.{◌≡◌, replicate};
 ghost use Rattle.laws.specs.Refusals.{first};
 ghost use Rattle.access.specs.Limits.{max_entries};
 ghost use Rattle.sound_names_walk.specs.Fold.{buckets};
 ghost use Rattle.sound_names_chains.specs.Chains.{IndexedIf};
-ghost use Rattle.named.specs.Named.{named_sound, named_outcome};
-ghost use Rattle.named.specs.Slices.{before, after};
+ghost use Rattle.named.specs.Named.{with_names, named_sound, named_outcome};
 ghost use Rattle.named.specs.Batch.{request_count, answers_to, batch_checks, batch_of, batch_named};
 
 use access::errno::{Errno, Reply};
@@ -29,7 +29,7 @@ fn tables_indexed(
     links: &mut [u16],
 ) -> Indexed
     requires { (heads.old ≡ replicate buckets 0) × (links.old ≡ replicate max_entries 0) }
-    ensures { (result.sound ≡ named_sound (before system entries rulesets layers pool threads names)) × IndexedIf result.whole entries.now names.now heads.new links.new }
+    ensures { (result.sound ≡ named_sound (with_names (tables system.now entries.now rulesets.now layers.now pool.now threads.now) names.now)) × IndexedIf result.whole entries.now names.now heads.new links.new }
 {
     if !is_sound(system, entries, rulesets, layers, pool, threads) {
         return Indexed {
@@ -54,7 +54,7 @@ fn answer(
     answers: &mut [u64],
 )
     requires { first (batch_checks requests.now answers.old) ≡ 0 }
-    ensures { answers.new ≡ answers_to (before system entries rulesets layers pool threads names) requests.now asked.now answers.old (request_count requests.now) }
+    ensures { answers.new ≡ answers_to (with_names (tables system.now entries.now rulesets.now layers.now pool.now threads.now) names.now) requests.now asked.now answers.old (request_count requests.now) }
 {
     let mut heads = [0u16; BUCKETS];
     let mut links = [0u16; MAX_ENTRIES];
@@ -99,8 +99,8 @@ pub fn batch(
     asked: &[u8],
     answers: &mut [u64],
 ) -> Reply
-    ensures reply { named_outcome result (after system entries rulesets layers pool threads names) ≡ batch_named (before system entries rulesets layers pool threads names) requests.now asked.now answers.old }
-    ensures answers { answers.new ≡ (batch_of (before system entries rulesets layers pool threads names) requests.now asked.now answers.old).answers }
+    ensures reply { named_outcome result (with_names (tables system.now entries.now rulesets.now layers.now pool.now threads.now) names.now) ≡ batch_named (with_names (tables system.now entries.now rulesets.now layers.now pool.now threads.now) names.now) requests.now asked.now answers.old }
+    ensures answers { answers.new ≡ (batch_of (with_names (tables system.now entries.now rulesets.now layers.now pool.now threads.now) names.now) requests.now asked.now answers.old).answers }
 {
     let e = batch_checks(requests, answers);
     if e != 0 {

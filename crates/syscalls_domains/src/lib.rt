@@ -1,12 +1,12 @@
 // The entry points of layers and threads, on tables with names: each answers EIO if the tables are not sound, then does the call. A refusal changes no cell.
+ghost use Rattle.tables.specs.Tables.{tables};
 ghost use Rattle.std.specs.Prelude.{◌≡◌};
 ghost use Rattle.tables.specs.Outcome.{error_of};
 ghost use Rattle.domain_restrict.specs.Restrict.{restrict_call};
 ghost use Rattle.domain.specs.Layer.{layer_read, layer_part};
 ghost use Rattle.domain.specs.Threads.{cloned, privs_set, admin_set};
 ghost use Rattle.domain_end.specs.End.{end_call};
-ghost use Rattle.named.specs.Named.{named_outcome, lift, lift_part};
-ghost use Rattle.named.specs.Slices.{before, after};
+ghost use Rattle.named.specs.Named.{with_names, named_outcome, lift, lift_part};
 
 use access::errno::{Errno, Reply};
 use sound_names::names_sound;
@@ -23,9 +23,9 @@ pub fn layer_rules<'a>(
     l: u64,
     code: &mut u64,
 ) -> &'a [u64]
-    ensures part { result.now ≡ lift_part (before system entries rulesets layers pool threads names) (layer_part (before system entries rulesets layers pool threads names).core l) }
-    ensures answer { code.new ≡ error_of (lift (before system entries rulesets layers pool threads names) (layer_read (before system entries rulesets layers pool threads names).core l)).reply }
-    ensures left { after system entries rulesets layers pool threads names ≡ (lift (before system entries rulesets layers pool threads names) (layer_read (before system entries rulesets layers pool threads names).core l)).left }
+    ensures part { result.now ≡ lift_part (with_names (tables system.now entries.now rulesets.now layers.now pool.now threads.now) names.now) (layer_part (with_names (tables system.now entries.now rulesets.now layers.now pool.now threads.now) names.now).core l) }
+    ensures answer { code.new ≡ error_of (lift (with_names (tables system.now entries.now rulesets.now layers.now pool.now threads.now) names.now) (layer_read (with_names (tables system.now entries.now rulesets.now layers.now pool.now threads.now) names.now).core l)).reply }
+    ensures left { with_names (tables system.now entries.now rulesets.now layers.now pool.now threads.now) names.now ≡ (lift (with_names (tables system.now entries.now rulesets.now layers.now pool.now threads.now) names.now) (layer_read (with_names (tables system.now entries.now rulesets.now layers.now pool.now threads.now) names.now).core l)).left }
 {
     if !names_sound(entries, names) {
         *code = Errno::EIO.0;
@@ -47,7 +47,7 @@ pub fn restrict(
     r: u64,
     flags: u64,
 ) -> Reply
-    ensures { named_outcome result (after system entries rulesets layers pool threads names) ≡ lift (before system entries rulesets layers pool threads names) (restrict_call (before system entries rulesets layers pool threads names).core t r flags) }
+    ensures { named_outcome result (with_names (tables system.new entries.now rulesets.now layers.new pool.new threads.new) names.now) ≡ lift (with_names (tables system.old entries.now rulesets.now layers.old pool.old threads.old) names.now) (restrict_call (with_names (tables system.old entries.now rulesets.now layers.old pool.old threads.old) names.now).core t r flags) }
 {
     if !names_sound(entries, names) {
         return Reply::Refused(Errno::EIO);
@@ -68,7 +68,7 @@ pub fn clone_thread(
     names: &[u8],
     t: u64,
 ) -> Reply
-    ensures { named_outcome result (after system entries rulesets layers pool threads names) ≡ lift (before system entries rulesets layers pool threads names) (cloned (before system entries rulesets layers pool threads names).core t) }
+    ensures { named_outcome result (with_names (tables system.now entries.now rulesets.now layers.new pool.now threads.new) names.now) ≡ lift (with_names (tables system.now entries.now rulesets.now layers.old pool.now threads.old) names.now) (cloned (with_names (tables system.now entries.now rulesets.now layers.old pool.now threads.old) names.now).core t) }
 {
     if !names_sound(entries, names) {
         return Reply::Refused(Errno::EIO);
@@ -87,7 +87,7 @@ pub fn end_thread(
     names: &[u8],
     t: u64,
 ) -> Reply
-    ensures { named_outcome result (after system entries rulesets layers pool threads names) ≡ lift (before system entries rulesets layers pool threads names) (end_call (before system entries rulesets layers pool threads names).core t) }
+    ensures { named_outcome result (with_names (tables system.new entries.now rulesets.now layers.new pool.new threads.new) names.now) ≡ lift (with_names (tables system.old entries.now rulesets.now layers.old pool.old threads.old) names.now) (end_call (with_names (tables system.old entries.now rulesets.now layers.old pool.old threads.old) names.now).core t) }
 {
     if !names_sound(entries, names) {
         return Reply::Refused(Errno::EIO);
@@ -106,7 +106,7 @@ pub fn set_no_new_privs(
     names: &[u8],
     t: u64,
 ) -> Reply
-    ensures { named_outcome result (after system entries rulesets layers pool threads names) ≡ lift (before system entries rulesets layers pool threads names) (privs_set (before system entries rulesets layers pool threads names).core t) }
+    ensures { named_outcome result (with_names (tables system.now entries.now rulesets.now layers.now pool.now threads.new) names.now) ≡ lift (with_names (tables system.now entries.now rulesets.now layers.now pool.now threads.old) names.now) (privs_set (with_names (tables system.now entries.now rulesets.now layers.now pool.now threads.old) names.now).core t) }
 {
     if !names_sound(entries, names) {
         return Reply::Refused(Errno::EIO);
@@ -126,7 +126,7 @@ pub fn set_admin(
     t: u64,
     on: u64,
 ) -> Reply
-    ensures { named_outcome result (after system entries rulesets layers pool threads names) ≡ lift (before system entries rulesets layers pool threads names) (admin_set (before system entries rulesets layers pool threads names).core t on) }
+    ensures { named_outcome result (with_names (tables system.now entries.now rulesets.now layers.now pool.now threads.new) names.now) ≡ lift (with_names (tables system.now entries.now rulesets.now layers.now pool.now threads.old) names.now) (admin_set (with_names (tables system.now entries.now rulesets.now layers.now pool.now threads.old) names.now).core t on) }
 {
     if !names_sound(entries, names) {
         return Reply::Refused(Errno::EIO);

@@ -1,8 +1,8 @@
 // The entry point of the call that links entries, with a log: its change goes into the log as a field. A change whose field has no room is ENOSPC, after the call's
 // own refusals. A refusal changes no cell, and no byte of the log.
+ghost use Rattle.tables.specs.Tables.{tables};
 ghost use Rattle.std.specs.Prelude.{◌≡◌};
-ghost use Rattle.named.specs.Named.{named_outcome};
-ghost use Rattle.named.specs.Slices.{before, after};
+ghost use Rattle.named.specs.Named.{with_names, named_outcome};
 ghost use Rattle.log.specs.Changes.{link};
 ghost use Rattle.log.specs.Logged.{logged_outcome, logged_log};
 ghost use Rattle.log_calls.specs.Logs.{log_of};
@@ -28,8 +28,8 @@ pub fn link(
     log: &mut [u8],
     used: &mut u64,
 ) -> Reply
-    ensures reply { named_outcome result (after system entries rulesets layers pool threads names) ≡ logged_outcome (before system entries rulesets layers pool threads names) (log_of log.old used.old) t (link s d name.now) }
-    ensures log { log_of log.new used.new ≡ logged_log (before system entries rulesets layers pool threads names) (log_of log.old used.old) t (link s d name.now) }
+    ensures reply { named_outcome result (with_names (tables system.now entries.new rulesets.now layers.now pool.now threads.now) names.new) ≡ logged_outcome (with_names (tables system.now entries.old rulesets.now layers.now pool.now threads.now) names.old) (log_of log.old used.old) t (link s d name.now) }
+    ensures log { log_of log.new used.new ≡ logged_log (with_names (tables system.now entries.old rulesets.now layers.now pool.now threads.now) names.old) (log_of log.old used.old) t (link s d name.now) }
 {
     if !has_room(log, *used, LINK_FIXED, name.len()) {
         return link_full(

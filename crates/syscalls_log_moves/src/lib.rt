@@ -1,10 +1,10 @@
 // The entry points of the calls that move entries, with a log: the change of a call goes into the log as a field. A change whose field has no room is
 // ENOSPC, after the call's own refusals; a call that changes nothing needs no room. A refusal changes no cell, and no byte of the log.
+ghost use Rattle.tables.specs.Tables.{tables};
 ghost use Rattle.std.specs.Prelude.{◌≡◌};
 ghost use Rattle.tree.specs.Entries.{replacing, same_object};
 ghost use Rattle.names.specs.Names.{bearer};
-ghost use Rattle.named.specs.Named.{named_outcome};
-ghost use Rattle.named.specs.Slices.{before, after};
+ghost use Rattle.named.specs.Named.{with_names, named_outcome};
 ghost use Rattle.log.specs.Changes.{rename, exchange};
 ghost use Rattle.log.specs.Logged.{logged_outcome, logged_log};
 ghost use Rattle.log_calls.specs.Logs.{log_of};
@@ -41,8 +41,8 @@ pub fn rename(
     log: &mut [u8],
     used: &mut u64,
 ) -> Reply
-    ensures reply { named_outcome result (after system entries rulesets layers pool threads names) ≡ logged_outcome (before system entries rulesets layers pool threads names) (log_of log.old used.old) t (rename s d name.now) }
-    ensures log { log_of log.new used.new ≡ logged_log (before system entries rulesets layers pool threads names) (log_of log.old used.old) t (rename s d name.now) }
+    ensures reply { named_outcome result (with_names (tables system.now entries.new rulesets.now layers.now pool.now threads.now) names.new) ≡ logged_outcome (with_names (tables system.now entries.old rulesets.now layers.now pool.now threads.now) names.old) (log_of log.old used.old) t (rename s d name.now) }
+    ensures log { log_of log.new used.new ≡ logged_log (with_names (tables system.now entries.old rulesets.now layers.now pool.now threads.now) names.old) (log_of log.old used.old) t (rename s d name.now) }
 {
     let idle = renames_itself(entries, names, s, d, name);
     if !idle {
@@ -82,8 +82,8 @@ pub fn exchange(
     log: &mut [u8],
     used: &mut u64,
 ) -> Reply
-    ensures reply { named_outcome result (after system entries rulesets layers pool threads names) ≡ logged_outcome (before system entries rulesets layers pool threads names) (log_of log.old used.old) t (exchange s d x) }
-    ensures log { log_of log.new used.new ≡ logged_log (before system entries rulesets layers pool threads names) (log_of log.old used.old) t (exchange s d x) }
+    ensures reply { named_outcome result (with_names (tables system.now entries.new rulesets.now layers.now pool.now threads.now) names.new) ≡ logged_outcome (with_names (tables system.now entries.old rulesets.now layers.now pool.now threads.now) names.old) (log_of log.old used.old) t (exchange s d x) }
+    ensures log { log_of log.new used.new ≡ logged_log (with_names (tables system.now entries.old rulesets.now layers.now pool.now threads.now) names.old) (log_of log.old used.old) t (exchange s d x) }
 {
     let same = same_object(entries, s, x);
     if !same {

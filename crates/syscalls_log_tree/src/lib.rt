@@ -1,8 +1,8 @@
 // The entry points of the calls that make and remove entries, with a log: the change of a call goes into the log as a field. A change whose field has no room is
 // ENOSPC, after the call's own refusals. A refusal changes no cell, and no byte of the log.
+ghost use Rattle.tables.specs.Tables.{tables};
 ghost use Rattle.std.specs.Prelude.{◌≡◌};
-ghost use Rattle.named.specs.Named.{named_outcome};
-ghost use Rattle.named.specs.Slices.{before, after};
+ghost use Rattle.named.specs.Named.{with_names, named_outcome};
 ghost use Rattle.log.specs.Changes.{create, remove};
 ghost use Rattle.log.specs.Logged.{logged_outcome, logged_log};
 ghost use Rattle.log_calls.specs.Logs.{log_of};
@@ -27,8 +27,8 @@ pub fn create(
     log: &mut [u8],
     used: &mut u64,
 ) -> Reply
-    ensures reply { named_outcome result (after system entries rulesets layers pool threads names) ≡ logged_outcome (before system entries rulesets layers pool threads names) (log_of log.old used.old) t (create k d name.now) }
-    ensures log { log_of log.new used.new ≡ logged_log (before system entries rulesets layers pool threads names) (log_of log.old used.old) t (create k d name.now) }
+    ensures reply { named_outcome result (with_names (tables system.new entries.new rulesets.now layers.now pool.now threads.now) names.new) ≡ logged_outcome (with_names (tables system.old entries.old rulesets.now layers.now pool.now threads.now) names.old) (log_of log.old used.old) t (create k d name.now) }
+    ensures log { log_of log.new used.new ≡ logged_log (with_names (tables system.old entries.old rulesets.now layers.now pool.now threads.now) names.old) (log_of log.old used.old) t (create k d name.now) }
 {
     if !has_room(log, *used, CREATE_FIXED, name.len()) {
         return create_full(
@@ -59,8 +59,8 @@ pub fn remove(
     log: &mut [u8],
     used: &mut u64,
 ) -> Reply
-    ensures reply { named_outcome result (after system entries rulesets layers pool threads names) ≡ logged_outcome (before system entries rulesets layers pool threads names) (log_of log.old used.old) t (remove e) }
-    ensures log { log_of log.new used.new ≡ logged_log (before system entries rulesets layers pool threads names) (log_of log.old used.old) t (remove e) }
+    ensures reply { named_outcome result (with_names (tables system.now entries.new rulesets.now layers.now pool.now threads.now) names.new) ≡ logged_outcome (with_names (tables system.now entries.old rulesets.now layers.now pool.now threads.now) names.old) (log_of log.old used.old) t (remove e) }
+    ensures log { log_of log.new used.new ≡ logged_log (with_names (tables system.now entries.old rulesets.now layers.now pool.now threads.now) names.old) (log_of log.old used.old) t (remove e) }
 {
     if !has_room(log, *used, REMOVE_FIXED, 0) {
         return remove_full(

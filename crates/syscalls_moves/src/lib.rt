@@ -1,8 +1,8 @@
 // The entry points of the calls that link and move entries, on tables with names: each tests the tables first and answers EIO if they are not sound, then does
 // the call. A refusal changes no cell.
+ghost use Rattle.tables.specs.Tables.{tables};
 ghost use Rattle.std.specs.Prelude.{◌≡◌};
-ghost use Rattle.named.specs.Named.{named_outcome};
-ghost use Rattle.named.specs.Slices.{before, after};
+ghost use Rattle.named.specs.Named.{with_names, named_outcome};
 ghost use Rattle.named.specs.Tree.{link_named, rename_named, exchange_named};
 
 use access::errno::{Errno, Reply};
@@ -23,7 +23,7 @@ pub fn link(
     d: u64,
     name: &[u8],
 ) -> Reply
-    ensures { named_outcome result (after system entries rulesets layers pool threads names) ≡ link_named (before system entries rulesets layers pool threads names) t s d name.now }
+    ensures { named_outcome result (with_names (tables system.now entries.new rulesets.now layers.now pool.now threads.now) names.new) ≡ link_named (with_names (tables system.now entries.old rulesets.now layers.now pool.now threads.now) names.old) t s d name.now }
 {
     if !named_sound(system, entries, rulesets, layers, pool, threads, names) {
         return Reply::Refused(Errno::EIO);
@@ -48,7 +48,7 @@ pub fn rename(
     d: u64,
     name: &[u8],
 ) -> Reply
-    ensures { named_outcome result (after system entries rulesets layers pool threads names) ≡ rename_named (before system entries rulesets layers pool threads names) t s d name.now }
+    ensures { named_outcome result (with_names (tables system.now entries.new rulesets.now layers.now pool.now threads.now) names.new) ≡ rename_named (with_names (tables system.now entries.old rulesets.now layers.now pool.now threads.now) names.old) t s d name.now }
 {
     if !named_sound(system, entries, rulesets, layers, pool, threads, names) {
         return Reply::Refused(Errno::EIO);
@@ -72,7 +72,7 @@ pub fn exchange(
     d: u64,
     x: u64,
 ) -> Reply
-    ensures { named_outcome result (after system entries rulesets layers pool threads names) ≡ exchange_named (before system entries rulesets layers pool threads names) t s d x }
+    ensures { named_outcome result (with_names (tables system.now entries.new rulesets.now layers.now pool.now threads.now) names.new) ≡ exchange_named (with_names (tables system.now entries.old rulesets.now layers.now pool.now threads.now) names.old) t s d x }
 {
     if !named_sound(system, entries, rulesets, layers, pool, threads, names) {
         return Reply::Refused(Errno::EIO);

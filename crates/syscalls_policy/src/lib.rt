@@ -4,7 +4,6 @@ ghost use Rattle.access.specs.Reply.{reply_to};
 ghost use Rattle.tables.specs.Tables.{tables};
 ghost use Rattle.policy.specs.Find.{found};
 ghost use Rattle.named.specs.Named.{with_names, named_sound, named_outcome};
-ghost use Rattle.named.specs.Slices.{before, after};
 ghost use Rattle.named.specs.Policy.{found_number, found_place, apply_named, applied_place, placed};
 
 use access::errno::{Errno, Reply};
@@ -38,8 +37,8 @@ fn apply_meant<'a>(
     report: &mut [u64],
 ) -> Reply
     requires { named_sound (with_names (tables system.now entries.now rulesets.old layers.now pool.now threads.now) names.now) ≡ true }
-    ensures reply { named_outcome result (after system entries rulesets layers pool threads names) ≡ apply_named (before system entries rulesets layers pool threads names) stock.now site.now name.now }
-    ensures report { report.new ≡ placed report.old (applied_place (before system entries rulesets layers pool threads names) stock.now site.now name.now) }
+    ensures reply { named_outcome result (with_names (tables system.now entries.now rulesets.new layers.now pool.now threads.now) names.now) ≡ apply_named (with_names (tables system.now entries.now rulesets.old layers.now pool.now threads.now) names.now) stock.now site.now name.now }
+    ensures report { report.new ≡ placed report.old (applied_place (with_names (tables system.now entries.now rulesets.old layers.now pool.now threads.now) names.now) stock.now site.now name.now) }
 {
     let meant = find(stock, site, name);
     let e = found_number(meant);
@@ -74,8 +73,8 @@ pub fn apply_policy<'a>(
     name: &[u8],
     report: &mut [u64],
 ) -> Reply
-    ensures reply { named_outcome result (after system entries rulesets layers pool threads names) ≡ apply_named (before system entries rulesets layers pool threads names) stock.now site.now name.now }
-    ensures report { report.new ≡ placed report.old (applied_place (before system entries rulesets layers pool threads names) stock.now site.now name.now) }
+    ensures reply { named_outcome result (with_names (tables system.now entries.now rulesets.new layers.now pool.now threads.now) names.now) ≡ apply_named (with_names (tables system.now entries.now rulesets.old layers.now pool.now threads.now) names.now) stock.now site.now name.now }
+    ensures report { report.new ≡ placed report.old (applied_place (with_names (tables system.now entries.now rulesets.old layers.now pool.now threads.now) names.now) stock.now site.now name.now) }
 {
     if !named_sound(system, entries, rulesets, layers, pool, threads, names) {
         report_nothing(report);

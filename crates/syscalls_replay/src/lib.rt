@@ -1,7 +1,7 @@
 // The entry point of replay: the changes of a log made on tables with names.
+ghost use Rattle.tables.specs.Tables.{tables};
 ghost use Rattle.std.specs.Prelude.{◌≡◌};
-ghost use Rattle.named.specs.Named.{named_outcome};
-ghost use Rattle.named.specs.Slices.{before, after};
+ghost use Rattle.named.specs.Named.{with_names, named_outcome};
 ghost use Rattle.log.specs.Replay.{replay_named};
 
 use access::errno::{Errno, Reply};
@@ -22,7 +22,7 @@ pub fn replay(
     names: &mut [u8],
     log: &[u8],
 ) -> Reply
-    ensures { named_outcome result (after system entries rulesets layers pool threads names) ≡ replay_named (before system entries rulesets layers pool threads names) log.now }
+    ensures { named_outcome result (with_names (tables system.new entries.new rulesets.now layers.now pool.now threads.now) names.new) ≡ replay_named (with_names (tables system.old entries.old rulesets.now layers.now pool.now threads.now) names.old) log.now }
 {
     if !named_sound(system, entries, rulesets, layers, pool, threads, names) {
         return Reply::Refused(Errno::EIO);

@@ -1,9 +1,9 @@
 // The entry points of rulesets and rules, on tables with names: each answers EIO if the tables are not sound, then does the call. A refusal changes no cell.
+ghost use Rattle.tables.specs.Tables.{tables};
 ghost use Rattle.std.specs.Prelude.{◌≡◌};
 ghost use Rattle.ruleset.specs.Create.{created, closed};
 ghost use Rattle.rule.specs.Rule.{path_added, port_added};
-ghost use Rattle.named.specs.Named.{named_outcome, lift};
-ghost use Rattle.named.specs.Slices.{before, after};
+ghost use Rattle.named.specs.Named.{with_names, named_outcome, lift};
 
 use access::errno::{Errno, Reply};
 use access::rights::Rights;
@@ -21,7 +21,7 @@ pub fn create_ruleset(
     bytes: &[u8],
     flags: u64,
 ) -> Reply
-    ensures answer { named_outcome result (after system entries rulesets layers pool threads names) ≡ lift (before system entries rulesets layers pool threads names) (created (before system entries rulesets layers pool threads names).core bytes.now flags) }
+    ensures answer { named_outcome result (with_names (tables system.now entries.now rulesets.new layers.now pool.now threads.now) names.now) ≡ lift (with_names (tables system.now entries.now rulesets.old layers.now pool.now threads.now) names.now) (created (with_names (tables system.now entries.now rulesets.old layers.now pool.now threads.now) names.now).core bytes.now flags) }
     ensures bytes { bytes.now ≡ bytes.now }
 {
     if !names_sound(entries, names) {
@@ -43,7 +43,7 @@ pub fn close_ruleset(
     names: &[u8],
     r: u64,
 ) -> Reply
-    ensures { named_outcome result (after system entries rulesets layers pool threads names) ≡ lift (before system entries rulesets layers pool threads names) (closed (before system entries rulesets layers pool threads names).core r) }
+    ensures { named_outcome result (with_names (tables system.now entries.now rulesets.new layers.now pool.now threads.now) names.now) ≡ lift (with_names (tables system.now entries.now rulesets.old layers.now pool.now threads.now) names.now) (closed (with_names (tables system.now entries.now rulesets.old layers.now pool.now threads.now) names.now).core r) }
 {
     if !names_sound(entries, names) {
         return Reply::Refused(Errno::EIO);
@@ -65,7 +65,7 @@ pub fn add_path_rule(
     rights: Rights,
     flags: u64,
 ) -> Reply
-    ensures { named_outcome result (after system entries rulesets layers pool threads names) ≡ lift (before system entries rulesets layers pool threads names) (path_added (before system entries rulesets layers pool threads names).core r e rights.0 flags) }
+    ensures { named_outcome result (with_names (tables system.now entries.now rulesets.new layers.now pool.now threads.now) names.now) ≡ lift (with_names (tables system.now entries.now rulesets.old layers.now pool.now threads.now) names.now) (path_added (with_names (tables system.now entries.now rulesets.old layers.now pool.now threads.now) names.now).core r e rights.0 flags) }
 {
     if !names_sound(entries, names) {
         return Reply::Refused(Errno::EIO);
@@ -89,7 +89,7 @@ pub fn add_port_rule(
     rights: Rights,
     flags: u64,
 ) -> Reply
-    ensures { named_outcome result (after system entries rulesets layers pool threads names) ≡ lift (before system entries rulesets layers pool threads names) (port_added (before system entries rulesets layers pool threads names).core r port rights.0 flags) }
+    ensures { named_outcome result (with_names (tables system.now entries.now rulesets.new layers.now pool.now threads.now) names.now) ≡ lift (with_names (tables system.now entries.now rulesets.old layers.now pool.now threads.now) names.now) (port_added (with_names (tables system.now entries.now rulesets.old layers.now pool.now threads.now) names.now).core r port rights.0 flags) }
 {
     if !names_sound(entries, names) {
         return Reply::Refused(Errno::EIO);

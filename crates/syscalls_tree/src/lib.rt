@@ -1,8 +1,8 @@
 // The entry points of the calls that make and remove entries, on tables with names: each tests the tables first and answers EIO if they are not sound, then does
 // the call. A refusal changes no cell.
+ghost use Rattle.tables.specs.Tables.{tables};
 ghost use Rattle.std.specs.Prelude.{◌≡◌};
-ghost use Rattle.named.specs.Named.{named_outcome};
-ghost use Rattle.named.specs.Slices.{before, after};
+ghost use Rattle.named.specs.Named.{with_names, named_outcome};
 ghost use Rattle.named.specs.Tree.{create_named, remove_named};
 
 use access::errno::{Errno, Reply};
@@ -22,7 +22,7 @@ pub fn create(
     k: u64,
     name: &[u8],
 ) -> Reply
-    ensures { named_outcome result (after system entries rulesets layers pool threads names) ≡ create_named (before system entries rulesets layers pool threads names) t d k name.now }
+    ensures { named_outcome result (with_names (tables system.new entries.new rulesets.now layers.now pool.now threads.now) names.new) ≡ create_named (with_names (tables system.old entries.old rulesets.now layers.now pool.now threads.now) names.old) t d k name.now }
 {
     if !named_sound(system, entries, rulesets, layers, pool, threads, names) {
         return Reply::Refused(Errno::EIO);
@@ -44,7 +44,7 @@ pub fn remove(
     t: u64,
     e: u64,
 ) -> Reply
-    ensures { named_outcome result (after system entries rulesets layers pool threads names) ≡ remove_named (before system entries rulesets layers pool threads names) t e }
+    ensures { named_outcome result (with_names (tables system.now entries.new rulesets.now layers.now pool.now threads.now) names.new) ≡ remove_named (with_names (tables system.now entries.old rulesets.now layers.now pool.now threads.now) names.old) t e }
 {
     if !named_sound(system, entries, rulesets, layers, pool, threads, names) {
         return Reply::Refused(Errno::EIO);

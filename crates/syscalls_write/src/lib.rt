@@ -1,11 +1,11 @@
 // The entry point that writes the policy file of a ruleset.
+ghost use Rattle.tables.specs.Tables.{tables};
 ghost use Rattle.std.specs.Prelude.{◌≡◌, ◌++◌, length};
 ghost use Rattle.laws.specs.Refusals.{first};
 ghost use Rattle.tables.specs.Layers.{ruleset_at};
 ghost use Rattle.policy_write.specs.File.{policy_file, write_form, write_rules, write_room};
 ghost use Rattle.policy_file.specs.Writing.{write_reply, write_left};
-ghost use Rattle.named.specs.Named.{named_outcome};
-ghost use Rattle.named.specs.Slices.{before, after};
+ghost use Rattle.named.specs.Named.{with_names, named_outcome};
 ghost use Rattle.named.specs.Write.{write_named, written_out};
 ghost use Rattle.syscalls_write.specs.Ready.{Ready};
 
@@ -73,8 +73,8 @@ pub fn write_policy(
     name: &[u8],
     out: &mut [u8],
 ) -> Reply
-    ensures reply { named_outcome result (after system entries rulesets layers pool threads names) ≡ write_named (before system entries rulesets layers pool threads names) r name.now out.old }
-    ensures output { out.new ≡ written_out (before system entries rulesets layers pool threads names) r name.now out.old }
+    ensures reply { named_outcome result (with_names (tables system.now entries.now rulesets.now layers.now pool.now threads.now) names.now) ≡ write_named (with_names (tables system.now entries.now rulesets.now layers.now pool.now threads.now) names.now) r name.now out.old }
+    ensures output { out.new ≡ written_out (with_names (tables system.now entries.now rulesets.now layers.now pool.now threads.now) names.now) r name.now out.old }
 {
     if !named_sound(system, entries, rulesets, layers, pool, threads, names) {
         return Reply::Refused(Errno::EIO);

@@ -1,7 +1,7 @@
 // The cells of each table by name, and the sizes of the rows.
 ghost use Rattle.std.specs.Prelude.{◌≡◌, ◌<◌};
 ghost use Rattle.laws.specs.Cells.{cell};
-ghost use Rattle.tables.specs.Tables.{entry_width, before, lengths_right, level, counter, layers_used, pool_used, kind, parent, object, live, is_dir, past_file_set, youngest, no_new_privs, admin, thread_live};
+ghost use Rattle.tables.specs.Tables.{tables, entry_width, lengths_right, level, counter, layers_used, pool_used, kind, parent, object, live, is_dir, past_file_set, youngest, no_new_privs, admin, thread_live};
 ghost use Rattle.tables.specs.Layers.{handles_any, ruleset_fs, ruleset_net, ruleset_scope, ruleset_count, is_open, layer_parent, layer_fs, layer_net, layer_scope, layer_first, layer_count, layer_holders, layer_in_use};
 
 use access::limits::{MAX_ENTRIES, MAX_LAYERS, MAX_POOL, MAX_RULES, MAX_RULESETS, MAX_THREADS};
@@ -108,7 +108,7 @@ pub fn lengths_right(
     pool: &[u64],
     threads: &[u64],
 ) -> bool
-    ensures { result ≡ lengths_right (before system entries rulesets layers pool threads) }
+    ensures { result ≡ lengths_right (tables system.now entries.now rulesets.now layers.now pool.now threads.now) }
 {
     if system.len() != SYSTEM_CELLS {
         return false;

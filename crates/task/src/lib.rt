@@ -1,10 +1,10 @@
 // Requests between threads: signals, and abstract UNIX sockets.
+ghost use Rattle.tables.specs.Tables.{tables};
 ghost use Rattle.std.specs.Prelude.{◌≡◌, not, ◌&&◌};
 ghost use Rattle.laws.specs.Tests.{any, elem};
 ghost use Rattle.laws.specs.Refusals.{first};
 ghost use Rattle.access.specs.Rights.{within};
 ghost use Rattle.access.specs.Limits.{max_domain};
-ghost use Rattle.tables.specs.Tables.{before, after};
 ghost use Rattle.tables.specs.Layers.{layer_scope};
 ghost use Rattle.tables.specs.Outcome.{outcome, answer};
 ghost use Rattle.judge.specs.Domain.{chain, domain};
@@ -121,7 +121,7 @@ pub fn task(
     u: u64,
     scope: Scope,
 ) -> Reply
-    ensures { outcome result (after system entries rulesets layers pool threads) ≡ answer (before system entries rulesets layers pool threads) (task_checks layers.now threads.now t u scope) (outcome (Reply.Done 0) (before system entries rulesets layers pool threads)) }
+    ensures { outcome result (tables system.now entries.now rulesets.now layers.now pool.now threads.now) ≡ answer (tables system.now entries.now rulesets.now layers.now pool.now threads.now) (task_checks layers.now threads.now t u scope) (outcome (Reply.Done 0) (tables system.now entries.now rulesets.now layers.now pool.now threads.now)) }
 {
     Reply::to(task_checks(layers, threads, t, u, scope))
 }

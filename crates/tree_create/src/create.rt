@@ -1,11 +1,10 @@
 // Create an entry.
 ghost use Rattle.std.specs.Prelude.{◌≡◌, ◌<◌};
 ghost use Rattle.laws.specs.Refusals.{first};
-ghost use Rattle.tables.specs.Tables.{before, after};
 ghost use Rattle.tables.specs.Outcome.{outcome, answer};
 ghost use Rattle.access.specs.Kinds.{kind_of};
 ghost use Rattle.access.specs.Limits.{max_counter};
-ghost use Rattle.tables.specs.Tables.{counter};
+ghost use Rattle.tables.specs.Tables.{tables, counter};
 ghost use Rattle.judge.specs.Blame.{entry_reply, naming_entry};
 ghost use Rattle.fs.specs.Needs.{make_of};
 ghost use Rattle.verdict.specs.Denial.{thread_denial};
@@ -41,7 +40,7 @@ fn create_shape(
     d: u64,
     k: u64,
 ) -> u64
-    ensures { result ≡ first (create_shape (before system entries rulesets layers pool threads) t d k) }
+    ensures { result ≡ first (create_shape (tables system.now entries.now rulesets.now layers.now pool.now threads.now) t d k) }
 {
     if !thread_live(threads, t) {
         return Errno::ESRCH.0;
@@ -85,7 +84,7 @@ fn create_later(
     e: usize,
 ) -> u64
     requires { e ≡ free_entry entries.now }
-    ensures { result ≡ first (create_later (before system entries rulesets layers pool threads)) }
+    ensures { result ≡ first (create_later (tables system.now entries.now rulesets.now layers.now pool.now threads.now)) }
 {
     if e >= MAX_ENTRIES {
         return Errno::ENOSPC.0;
@@ -109,7 +108,7 @@ pub fn create_checks(
     e: usize,
 ) -> Reply
     requires { e ≡ free_entry entries.now }
-    ensures { result ≡ entry_reply (before system entries rulesets layers pool threads) t d (make_of (kind_of k)) (tree_create_checks (before system entries rulesets layers pool threads) t d k) }
+    ensures { result ≡ entry_reply (tables system.now entries.now rulesets.now layers.now pool.now threads.now) t d (make_of (kind_of k)) (tree_create_checks (tables system.now entries.now rulesets.now layers.now pool.now threads.now) t d k) }
 {
     let a = create_shape(system, entries, rulesets, layers, pool, threads, t, d, k);
     if a != 0 {
@@ -134,7 +133,7 @@ pub fn apply_create(
     e: usize,
 )
     requires { (e ≡ free_entry entries.old) × (counter system.old < max_counter) }
-    ensures { after system entries rulesets layers pool threads ≡ tree_created (before system entries rulesets layers pool threads) d k }
+    ensures { tables system.new entries.new rulesets.now layers.now pool.now threads.now ≡ tree_created (tables system.old entries.old rulesets.now layers.now pool.now threads.now) d k }
 {
     let object = counter_of(system);
     write(system, SYSTEM_COUNTER, object + 1);
@@ -153,7 +152,7 @@ pub fn create(
     d: u64,
     k: u64,
 ) -> Reply
-    ensures { outcome result (after system entries rulesets layers pool threads) ≡ naming_entry (before system entries rulesets layers pool threads) t d (make_of (kind_of k)) (answer (before system entries rulesets layers pool threads) (tree_create_checks (before system entries rulesets layers pool threads) t d k) (outcome (Reply.Done (free_entry entries.old)) (tree_created (before system entries rulesets layers pool threads) d k))) }
+    ensures { outcome result (tables system.new entries.new rulesets.now layers.now pool.now threads.now) ≡ naming_entry (tables system.old entries.old rulesets.now layers.now pool.now threads.now) t d (make_of (kind_of k)) (answer (tables system.old entries.old rulesets.now layers.now pool.now threads.now) (tree_create_checks (tables system.old entries.old rulesets.now layers.now pool.now threads.now) t d k) (outcome (Reply.Done (free_entry entries.old)) (tree_created (tables system.old entries.old rulesets.now layers.now pool.now threads.now) d k))) }
 {
     let e = free_entry(entries);
     let reply = create_checks(system, entries, rulesets, layers, pool, threads, t, d, k, e);

@@ -1,7 +1,7 @@
 // Exchange two entries: each moves to the other's directory.
 ghost use Rattle.std.specs.Prelude.{◌≡◌, true};
 ghost use Rattle.laws.specs.Refusals.{first};
-ghost use Rattle.tables.specs.Tables.{tables, before, after};
+ghost use Rattle.tables.specs.Tables.{tables};
 ghost use Rattle.tables.specs.Outcome.{outcome, answer};
 ghost use Rattle.sound.specs.Sound.{sound};
 ghost use Rattle.fs.specs.Blame.{move_reply, naming_move};
@@ -31,7 +31,7 @@ pub fn exchange_names(
     d: u64,
     x: u64,
 ) -> u64
-    ensures { result ≡ first (exchange_names (before system entries rulesets layers pool threads) t s d x) }
+    ensures { result ≡ first (exchange_names (tables system.now entries.now rulesets.now layers.now pool.now threads.now) t s d x) }
 {
     if !thread_live(threads, t) {
         return Errno::ESRCH.0;
@@ -110,7 +110,7 @@ pub fn exchange_checks(
     x: u64,
 ) -> Reply
     requires { sound (tables system.now entries.now rulesets.now layers.now pool.now threads.now) ≡ true }
-    ensures { result ≡ move_reply (before system entries rulesets layers pool threads) t (exchange_move entries.now s d x) (exchange_checks (before system entries rulesets layers pool threads) t s d x) }
+    ensures { result ≡ move_reply (tables system.now entries.now rulesets.now layers.now pool.now threads.now) t (exchange_move entries.now s d x) (exchange_checks (tables system.now entries.now rulesets.now layers.now pool.now threads.now) t s d x) }
 {
     let a = exchange_names(system, entries, rulesets, layers, pool, threads, t, s, d, x);
     if a != 0 {
@@ -149,7 +149,7 @@ pub fn exchange(
     x: u64,
 ) -> Reply
     requires { sound (tables system.now entries.old rulesets.now layers.now pool.now threads.now) ≡ true }
-    ensures { outcome result (after system entries rulesets layers pool threads) ≡ naming_move (before system entries rulesets layers pool threads) t (exchange_move entries.old s d x) (answer (before system entries rulesets layers pool threads) (exchange_checks (before system entries rulesets layers pool threads) t s d x) (outcome (Reply.Done 0) (with_entries (before system entries rulesets layers pool threads) (swapped entries.old s d x)))) }
+    ensures { outcome result (tables system.now entries.new rulesets.now layers.now pool.now threads.now) ≡ naming_move (tables system.now entries.old rulesets.now layers.now pool.now threads.now) t (exchange_move entries.old s d x) (answer (tables system.now entries.old rulesets.now layers.now pool.now threads.now) (exchange_checks (tables system.now entries.old rulesets.now layers.now pool.now threads.now) t s d x) (outcome (Reply.Done 0) (with_entries (tables system.now entries.old rulesets.now layers.now pool.now threads.now) (swapped entries.old s d x)))) }
 {
     let reply = exchange_checks(system, entries, rulesets, layers, pool, threads, t, s, d, x);
     if reply.is_refused() {

@@ -1,8 +1,8 @@
 // Link an entry: another entry of its object.
+ghost use Rattle.tables.specs.Tables.{tables};
 ghost use Rattle.std.specs.Prelude.{◌≡◌, true};
 ghost use Rattle.laws.specs.Refusals.{first};
 ghost use Rattle.access.specs.declared.kinds.MaybeKind.TheVariants.{None};
-ghost use Rattle.tables.specs.Tables.{before, after};
 ghost use Rattle.tables.specs.Outcome.{outcome, answer};
 ghost use Rattle.fs.specs.Blame.{move_reply, naming_move};
 ghost use Rattle.fs.specs.declared.needs.Step.TheVariants.{Link};
@@ -31,7 +31,7 @@ fn link_shape(
     s: u64,
     d: u64,
 ) -> u64
-    ensures { result ≡ first (link_shape (before system entries rulesets layers pool threads) t s d) }
+    ensures { result ≡ first (link_shape (tables system.now entries.now rulesets.now layers.now pool.now threads.now) t s d) }
 {
     if !thread_live(threads, t) {
         return Errno::ESRCH.0;
@@ -89,7 +89,7 @@ fn link_later(
     e: usize,
 ) -> u64
     requires { e ≡ free_entry entries.now }
-    ensures { result ≡ first (link_later (before system entries rulesets layers pool threads)) }
+    ensures { result ≡ first (link_later (tables system.now entries.now rulesets.now layers.now pool.now threads.now)) }
 {
     if e >= MAX_ENTRIES {
         return Errno::ENOSPC.0;
@@ -110,7 +110,7 @@ pub fn link_checks(
     e: usize,
 ) -> Reply
     requires { e ≡ free_entry entries.now }
-    ensures { result ≡ move_reply (before system entries rulesets layers pool threads) t (link_move entries.now s d) (link_checks (before system entries rulesets layers pool threads) t s d) }
+    ensures { result ≡ move_reply (tables system.now entries.now rulesets.now layers.now pool.now threads.now) t (link_move entries.now s d) (link_checks (tables system.now entries.now rulesets.now layers.now pool.now threads.now) t s d) }
 {
     let a = link_shape(system, entries, rulesets, layers, pool, threads, t, s, d);
     if a != 0 {
@@ -144,7 +144,7 @@ pub fn link(
     s: u64,
     d: u64,
 ) -> Reply
-    ensures { outcome result (after system entries rulesets layers pool threads) ≡ naming_move (before system entries rulesets layers pool threads) t (link_move entries.old s d) (answer (before system entries rulesets layers pool threads) (link_checks (before system entries rulesets layers pool threads) t s d) (outcome (Reply.Done (free_entry entries.old)) (with_entries (before system entries rulesets layers pool threads) (linked entries.old s d)))) }
+    ensures { outcome result (tables system.now entries.new rulesets.now layers.now pool.now threads.now) ≡ naming_move (tables system.now entries.old rulesets.now layers.now pool.now threads.now) t (link_move entries.old s d) (answer (tables system.now entries.old rulesets.now layers.now pool.now threads.now) (link_checks (tables system.now entries.old rulesets.now layers.now pool.now threads.now) t s d) (outcome (Reply.Done (free_entry entries.old)) (with_entries (tables system.now entries.old rulesets.now layers.now pool.now threads.now) (linked entries.old s d)))) }
 {
     let e = free_entry(entries);
     let reply = link_checks(system, entries, rulesets, layers, pool, threads, t, s, d, e);

@@ -2,7 +2,7 @@
 ghost use Rattle.std.specs.Prelude.{◌≡◌};
 ghost use Rattle.laws.specs.Refusals.{first};
 ghost use Rattle.access.specs.Kinds.{kind_of};
-ghost use Rattle.tables.specs.Tables.{before, after, kind, parent};
+ghost use Rattle.tables.specs.Tables.{tables, kind, parent};
 ghost use Rattle.tables.specs.Outcome.{outcome, answer};
 ghost use Rattle.judge.specs.Blame.{entry_reply, naming_entry};
 ghost use Rattle.fs.specs.Needs.{remove_of};
@@ -27,7 +27,7 @@ fn remove_shape(
     t: u64,
     e: u64,
 ) -> u64
-    ensures { result ≡ first (remove_shape (before system entries rulesets layers pool threads) t e) }
+    ensures { result ≡ first (remove_shape (tables system.now entries.now rulesets.now layers.now pool.now threads.now) t e) }
 {
     if !thread_live(threads, t) {
         return Errno::ESRCH.0;
@@ -73,7 +73,7 @@ fn remove_later(
     threads: &[u64],
     e: u64,
 ) -> u64
-    ensures { result ≡ first (remove_later (before system entries rulesets layers pool threads) e) }
+    ensures { result ≡ first (remove_later (tables system.now entries.now rulesets.now layers.now pool.now threads.now) e) }
 {
     if is_full(entries, e) {
         return Errno::ENOTEMPTY.0;
@@ -91,7 +91,7 @@ pub fn remove_checks(
     t: u64,
     e: u64,
 ) -> Reply
-    ensures { result ≡ entry_reply (before system entries rulesets layers pool threads) t (parent entries.now e) (remove_of (kind_of (kind entries.now e))) (remove_checks (before system entries rulesets layers pool threads) t e) }
+    ensures { result ≡ entry_reply (tables system.now entries.now rulesets.now layers.now pool.now threads.now) t (parent entries.now e) (remove_of (kind_of (kind entries.now e))) (remove_checks (tables system.now entries.now rulesets.now layers.now pool.now threads.now) t e) }
 {
     let a = remove_shape(system, entries, rulesets, layers, pool, threads, t, e);
     if a != 0 {
@@ -115,7 +115,7 @@ pub fn remove(
     t: u64,
     e: u64,
 ) -> Reply
-    ensures { outcome result (after system entries rulesets layers pool threads) ≡ naming_entry (before system entries rulesets layers pool threads) t (parent entries.old e) (remove_of (kind_of (kind entries.old e))) (answer (before system entries rulesets layers pool threads) (remove_checks (before system entries rulesets layers pool threads) t e) (outcome (Reply.Done 0) (with_entries (before system entries rulesets layers pool threads) (free_row entries.old e)))) }
+    ensures { outcome result (tables system.now entries.new rulesets.now layers.now pool.now threads.now) ≡ naming_entry (tables system.now entries.old rulesets.now layers.now pool.now threads.now) t (parent entries.old e) (remove_of (kind_of (kind entries.old e))) (answer (tables system.now entries.old rulesets.now layers.now pool.now threads.now) (remove_checks (tables system.now entries.old rulesets.now layers.now pool.now threads.now) t e) (outcome (Reply.Done 0) (with_entries (tables system.now entries.old rulesets.now layers.now pool.now threads.now) (free_row entries.old e)))) }
 {
     let reply = remove_checks(system, entries, rulesets, layers, pool, threads, t, e);
     if reply.is_refused() {

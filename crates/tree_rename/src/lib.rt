@@ -1,7 +1,7 @@
 // Rename an entry: move it to a directory, and replace an entry there or none.
+ghost use Rattle.tables.specs.Tables.{tables};
 ghost use Rattle.std.specs.Prelude.{◌≡◌};
 ghost use Rattle.laws.specs.Refusals.{first};
-ghost use Rattle.tables.specs.Tables.{before, after};
 ghost use Rattle.tables.specs.Outcome.{outcome, answer};
 ghost use Rattle.fs.specs.Blame.{move_reply, naming_move};
 ghost use Rattle.verdict.specs.Denial.{thread_denial};
@@ -32,7 +32,7 @@ fn rename_names(
     d: u64,
     x: Replaced,
 ) -> u64
-    ensures { result ≡ first (rename_names (before system entries rulesets layers pool threads) t s d x) }
+    ensures { result ≡ first (rename_names (tables system.now entries.now rulesets.now layers.now pool.now threads.now) t s d x) }
 {
     if !thread_live(threads, t) {
         return Errno::ESRCH.0;
@@ -124,7 +124,7 @@ pub fn rename_checks(
     d: u64,
     x: Replaced,
 ) -> Reply
-    ensures { result ≡ move_reply (before system entries rulesets layers pool threads) t (rename_move entries.now s d x) (rename_checks (before system entries rulesets layers pool threads) t s d x) }
+    ensures { result ≡ move_reply (tables system.now entries.now rulesets.now layers.now pool.now threads.now) t (rename_move entries.now s d x) (rename_checks (tables system.now entries.now rulesets.now layers.now pool.now threads.now) t s d x) }
 {
     let a = rename_names(system, entries, rulesets, layers, pool, threads, t, s, d, x);
     if a != 0 {
@@ -175,7 +175,7 @@ pub fn rename(
     d: u64,
     x: Replaced,
 ) -> Reply
-    ensures { outcome result (after system entries rulesets layers pool threads) ≡ naming_move (before system entries rulesets layers pool threads) t (rename_move entries.old s d x) (answer (before system entries rulesets layers pool threads) (rename_checks (before system entries rulesets layers pool threads) t s d x) (outcome (Reply.Done 0) (with_entries (before system entries rulesets layers pool threads) (moved entries.old s d x)))) }
+    ensures { outcome result (tables system.now entries.new rulesets.now layers.now pool.now threads.now) ≡ naming_move (tables system.now entries.old rulesets.now layers.now pool.now threads.now) t (rename_move entries.old s d x) (answer (tables system.now entries.old rulesets.now layers.now pool.now threads.now) (rename_checks (tables system.now entries.old rulesets.now layers.now pool.now threads.now) t s d x) (outcome (Reply.Done 0) (with_entries (tables system.now entries.old rulesets.now layers.now pool.now threads.now) (moved entries.old s d x)))) }
 {
     let reply = rename_checks(system, entries, rulesets, layers, pool, threads, t, s, d, x);
     if reply.is_refused() {

@@ -12,32 +12,22 @@ use Rattle.laws.proofs.Tests.{all_none}
 use Rattle.sound_zero.proofs.Blocks.{block_more, block_fails, zeros-rest}
 use Rattle.sound_zero.proofs.all_zero.Goals as goal
 
-fails : tie.Need-returns invariant_loop decreases_loop
-unfolding zeros
-fails c =
-    let d = c.before in
-    block_fails (λ j. eqb (get_or d.before.before.before.before.args.t.now j 0) 0) d.before.before.loop.i 8 _ (omega arith)
-    (sym d.block_zero.ensures ∙ not-true _ c.if1.true)
-
-again : tie.Need-loop-preserved invariant_loop decreases_loop
-again c =
-    let d = c.before in (
-      omega arith,
-      block_more (λ j. eqb (get_or d.before.before.before.before.args.t.now j 0) 0) d.before.before.loop.i 8 d.before.before.loop.invariant.1
-          (sym d.block_zero.ensures ∙ not-false _ c.if1.false),
-    )
-
 pub loop-i-init : goal.loop-i-init
 loop-i-init c =
     (omega arith, all_none _)
 
 pub returns-then-not-block_zero : goal.returns-then-not-block_zero
+unfolding zeros
 returns-then-not-block_zero c =
-    fails c
+    block_fails (λ j. eqb (get_or c.args.t.now j 0) 0) c.loop-i.i 8 _ (omega arith)
+    (sym c.block_zero.ensures ∙ c.if-not-block_zero.true)
 
 pub loop-i-preserved : goal.loop-i-preserved
-loop-i-preserved c =
-    again c
+loop-i-preserved c = (
+  omega arith,
+  block_more (λ j. eqb (get_or c.args.t.now j 0) 0) c.loop-i.i 8 c.loop-i.invariant.1
+      (sym c.block_zero.ensures ∙ c.if-not-block_zero.false),
+)
 
 pub returns : goal.returns
 returns c =
