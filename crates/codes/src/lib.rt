@@ -1,4 +1,6 @@
 // How numbers stand for what the calls answer.
+#![tactic(auto)]
+
 ghost use Rattle.std.specs.Prelude.{◌≡◌, set};
 ghost use Rattle.codes.specs.Codes.{code_of, number, layer_cell, said, reported, reported_access};
 

@@ -1,4 +1,6 @@
 // A queue of eight slots in parallel slices: a slot's request, its state and its answer. The cursor is the slot served last.
+#![tactic(auto)]
+
 ghost use Rattle.std.specs.Prelude.{◌≡◌};
 ghost use Rattle.laws.specs.Tests.{all_below};
 ghost use Rattle.queue.specs.Queue.{queue, slots, known_state, queue_sound, next, next_waiting, put_answer, served_reply};

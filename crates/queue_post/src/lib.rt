@@ -1,4 +1,6 @@
 // Posts: their refusals, and what they write.
+#![tactic(auto)]
+
 ghost use Rattle.std.specs.Prelude.{◌≡◌};
 ghost use Rattle.laws.specs.Refusals.{first};
 ghost use Rattle.queue.specs.Queue.{queue, post_checks, put_request, posted};

@@ -1,4 +1,6 @@
 // The cells of a list of rules, by name. A cell that is not there reads as 0.
+#![tactic(auto)]
+
 ghost use Rattle.std.specs.Prelude.{◌≡◌, ◌<◌};
 ghost use Rattle.laws.specs.Cells.{cell};
 ghost use Rattle.tables.specs.Tables.{rule_width, rule_type, rule_key, rule_rights};

@@ -1,5 +1,7 @@
 // The queue as records: its slots are a list of structs, and its cursor lies in a struct. Here is what is decided of them from numbers alone; `queue_slots`
 // has the functions over the structs.
+#![tactic(auto)]
+
 ghost use Rattle.std.specs.Prelude.{◌≡◌, [], ◌∷◌};
 ghost use Rattle.laws.specs.Refusals.{first};
 ghost use Rattle.slots.specs.Slots.{states_sound, slot_checks, choice};

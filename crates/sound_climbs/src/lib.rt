@@ -1,4 +1,6 @@
 // From every live entry a climb comes to entry 0.
+#![tactic(auto)]
+
 ghost use Rattle.std.specs.Prelude.{◌≡◌, true, ◌+◌, ◌*◌, ◌<◌, length};
 ghost use Rattle.laws.specs.Tests.{all_below};
 ghost use Rattle.access.specs.Limits.{max_entries};

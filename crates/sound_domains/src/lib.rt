@@ -1,4 +1,6 @@
 // The soundness test of the threads and their domains.
+#![tactic(auto)]
+
 ghost use Rattle.std.specs.Prelude.{◌≡◌, ◌*◌, ◌<◌, length};
 ghost use Rattle.access.specs.Limits.{max_domain, max_layers, max_threads};
 ghost use Rattle.tables.specs.Tables.{layer_width, thread_width};

@@ -1,5 +1,7 @@
 // The soundness test of the hierarchy of layers: their holders are counted in one pass over the cells that name layers, and a climb ends
 // at a layer that an earlier climb came from.
+#![tactic(auto)]
+
 ghost use Rattle.std.specs.Prelude.{◌≡◌, ℕ, ◌+◌, ◌-◌, ◌*◌, ◌<◌, ◌≤◌, length, get_or};
 ghost use Rattle.laws.specs.Tests.{all_below};
 ghost use Rattle.access.specs.Limits.{max_layers, max_threads, max_domain};

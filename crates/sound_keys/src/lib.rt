@@ -1,4 +1,6 @@
 // Rules are sound, and no two have the same type and key.
+#![tactic(auto)]
+
 ghost use Rattle.std.specs.Prelude.{◌≡◌, true, ◌+◌, ◌*◌, ◌<◌, length};
 ghost use Rattle.access.specs.Limits.{max_entries};
 ghost use Rattle.tables.specs.Tables.{entry_width, rule_type, rule_key};

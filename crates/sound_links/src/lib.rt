@@ -1,4 +1,6 @@
 // Entries of one object agree in kind, and a directory has one entry; the index of objects is filled in the same pass.
+#![tactic(auto)]
+
 ghost use Rattle.std.specs.Prelude.{◌≡◌, true, ◌+◌, ◌*◌, ◌<◌, length, replicate};
 ghost use Rattle.laws.specs.Tests.{all_below};
 ghost use Rattle.access.specs.Limits.{max_entries};

@@ -1,4 +1,6 @@
 // The rows of entries that are in use, and the search in an index of the entries by their objects.
+#![tactic(auto)]
+
 ghost use Rattle.std.specs.Prelude.{◌≡◌, ◌*◌, ◌≤◌, ◌<◌, length};
 ghost use Rattle.access.specs.Limits.{max_entries};
 ghost use Rattle.tables.specs.Tables.{entry_width};

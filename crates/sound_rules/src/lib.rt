@@ -1,4 +1,6 @@
 // The soundness test of one rule, the same for rulesets and layers.
+#![tactic(auto)]
+
 ghost use Rattle.std.specs.Prelude.{◌≡◌, ◌*◌, length};
 ghost use Rattle.access.specs.Limits.{max_entries};
 ghost use Rattle.tables.specs.Tables.{entry_width};

@@ -1,1 +1,2 @@
 // What sound entries are: definitions and laws. The test is in sound_entries and the crates below it.
+#![tactic(auto)]

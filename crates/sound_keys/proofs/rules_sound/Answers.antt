@@ -1,0 +1,57 @@
+use Prim.Native.Nat.{◌-◌, ◌≤◌}
+use mathlib.Core.Path.{◌≡◌, refl, sym, ◌∙◌}
+use mathlib.Core.Bool.{true}
+use native.Mathlib.Nat.{add-zero}
+use native.Mathlib.Omega.{arith}
+use borrow.Author.Tests.{not-true, not-false}
+use lib.ListN.{length}
+use Rattle.laws.specs.Tests.{all_below}
+use Rattle.laws.proofs.Tests.{all_none, all_more}
+use Rattle.sound_rules.specs.Rules.{rule_sound, new_key}
+use Rattle.sound_rules.specs.Flags.{Marked}
+use Rattle.sound_rules.proofs.Loop.{rule-is, rule_fails, key_fails, all-passed}
+use Rattle.sound_keys.proofs.rules_sound.Goals as goal
+use Rattle.sound_keys.proofs.rules_sound.Goals.{After-cells_sound}
+
+told : (c : After-cells_sound invariant_loop decreases_loop) → rule_sound c.args.entries.now c.args.next c.args.fs.0 c.args.net.0 c.args.rules.now c.loop-i.i ≡ c.cells_sound.result
+told c =
+    rule-is _ _ _ _ c.args.rules.now c.loop-i.i _ _ _ _ (rw (add-zero _)) refl refl c.cells_sound.ensures
+
+pub loop-i-init : goal.loop-i-init
+loop-i-init c =
+    (omega arith, all_none _, all_none _, refl, λ j l. absurd (omega arith))
+
+pub cells_sound-requires : goal.cells_sound-requires
+cells_sound-requires c =
+    c.requires
+
+pub returns-then-not-cells_sound : goal.returns-then-not-cells_sound
+returns-then-not-cells_sound c =
+    rule_fails _ _ _ _ _ c.loop-i.i (omega arith) (told c.before ∙ c.if-not-cells_sound.true)
+
+pub slice_bounds-take_key-end : goal.slice_bounds-take_key-end
+slice_bounds-take_key-end c =
+    sym c.loop-i.invariant.3
+
+pub take_key-requires : goal.take_key-requires
+take_key-requires c =
+    let l = c.loop-i in (omega arith, (rw (add-zero _), refl), (l.invariant.3, l.invariant.4))
+
+pub returns-then-not-take_key : goal.returns-then-not-take_key
+returns-then-not-take_key c =
+    key_fails _ _ _ _ _ c.loop-i.i (omega arith) (sym c.take_key.ensures.0 ∙ c.if-not-take_key.true)
+
+pub loop-i-preserved : goal.loop-i-preserved
+loop-i-preserved c =
+    let l = c.loop-i in
+    let r = c.if-not-take_key.false in (
+      omega arith,
+      all_more _ _ l.invariant.1 (told c.before.before.before.before.before ∙ c.if-not-cells_sound.false),
+      all_more _ _ l.invariant.2 (sym c.take_key.ensures.0 ∙ r),
+      c.take_key.auto.1.0 ∙ l.invariant.3,
+      c.take_key.ensures.1 r,
+    )
+
+pub returns : goal.returns
+returns c =
+    let l = c.loop-i in all-passed _ _ _ _ _ l.i (omega arith) (omega arith) l.invariant.1 l.invariant.2

@@ -1,0 +1,37 @@
+use mathlib.Core.Path.{refl}
+use native.Mathlib.Omega.{arith}
+use borrow.Author.Rules.{rules}
+use Rattle.sound_objects.proofs.Index.{bucket_in}
+use Rattle.sound_rules.proofs.Files.{file_no_root, file_no_node, file_by_node}
+use Rattle.sound_rules.proofs.file_object.Goals as goal
+
+pub offset_bounds-heads-bucket_of : goal.offset_bounds-heads-bucket_of
+offset_bounds-heads-bucket_of c =
+    let h = bucket_in _ c.bucket_of.ensures in omega arith
+
+pub bounds-heads-bucket_of : goal.bounds-heads-bucket_of
+bounds-heads-bucket_of c =
+    let h = bucket_in _ c.bucket_of.ensures in
+    let w = c.requires.1.size in
+    omega arith
+
+pub overflow_cast-root : goal.overflow_cast-root
+overflow_cast-root c =
+    omega (arith, c.shared_slice_known-4-1.given c.bucket_of.result)
+
+pub returns-then-root-eq0 : goal.returns-then-root-eq0
+returns-then-root-eq0 c =
+    file_no_root _ c.args.heads.now _ _ c.requires.1 c.bucket_of.ensures c.if-root-eq0.true
+
+pub search-place-requires : goal.search-place-requires
+search-place-requires c =
+    let u = c.requires.1 in
+    (c.requires.0, (u.trees, (c.if-root-eq0.false, (u.roots c.bucket_of.result c.if-root-eq0.false).0)))
+
+pub returns-then-node-eq0 : goal.returns-then-node-eq0
+returns-then-node-eq0 c =
+    file_no_node _ c.args.heads.now _ _ c.requires.1 c.bucket_of.ensures (c.search-place.ensures.missed c.if-node-eq0.true)
+
+pub returns : goal.returns
+returns c =
+    file_by_node _ c.args.heads.now _ _ c.requires.1 c.bucket_of.ensures (c.search-place.ensures.found c.if-node-eq0.false) c.if-node-eq0.false refl
