@@ -21,9 +21,9 @@ ghost use Rattle.named.specs.Queue.{answer_of, turn_named};
 ghost use Rattle.named.specs.Batch.{batch_of, batch_named};
 ghost use Rattle.named.specs.Write.{write_named, written_out};
 ghost use Rattle.path.specs.Span.{shown_start};
-ghost use Rattle.log.specs.Changes.{create, remove, link, rename, exchange};
-ghost use Rattle.log.specs.Replay.{replay_named};
-ghost use Rattle.log.specs.Logged.{logged_outcome, logged_log};
+ghost use Rattle.tree_log.specs.Changes.{create, remove, link, rename, exchange};
+ghost use Rattle.tree_log.specs.Replay.{replay_named};
+ghost use Rattle.tree_log.specs.Logged.{logged_outcome, logged_log};
 ghost use Rattle.log_calls.specs.Logs.{log_of};
 ghost use Rattle.capi.specs.Codes.{Answers, Tells, TellsAccess, FindsPolicy, AppliesPolicy, Posts, span_from};
 

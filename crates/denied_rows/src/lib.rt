@@ -1,5 +1,7 @@
 // What each layer denies each entry, kept for a batch: a row of cells for each entry, one for each layer. A row is filled when it is first
 // asked for, from that of the parent.
+#![tactic(auto)]
+
 ghost use Rattle.std.specs.Prelude.{◌≡◌, true, ◌*◌, ◌<◌, ◌≤◌, length};
 ghost use Rattle.access.specs.Limits.{max_entries, max_layers};
 ghost use Rattle.access.specs.Rights.{all_fs};

@@ -1,5 +1,7 @@
 // The layers of each thread's domain in their order, youngest first, kept for a batch: a row of cells for each thread. A cell names a layer by
 // its number + 1; after the oldest there are zeros.
+#![tactic(auto)]
+
 ghost use Rattle.std.specs.Prelude.{◌≡◌, ℕ, ◌*◌, ◌<◌, length};
 ghost use Rattle.access.specs.Limits.{max_domain, max_threads};
 ghost use Rattle.tables.specs.Tables.{youngest};

@@ -1,4 +1,6 @@
 // What one layer holds against a move: the needs that it denies, and REFER or the rights that are not contained.
+#![tactic(auto)]
+
 ghost use Rattle.std.specs.Prelude.{◌≡◌};
 ghost use Rattle.access.specs.Rights.{without};
 ghost use Rattle.tables.specs.Tables.{path_rule};

@@ -1,1 +1,2 @@
 // No code: theorems that the calls on threads and layers keep sound tables sound.
+#![tactic(auto)]

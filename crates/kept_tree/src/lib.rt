@@ -1,1 +1,2 @@
 // No code: theorems that the calls that change the tree keep sound tables sound.
+#![tactic(auto)]

@@ -16,8 +16,8 @@ use Rattle.access.specs.declared.errno.Reply.TheVariants.{Refused}
 use Rattle.policy.specs.Fields.{bytes_of, header}
 use Rattle.policy_write.specs.Written.{field_bytes}
 use Rattle.policy_bytes.proofs.Puts.{length-bytes, sets_append}
-use Rattle.log.specs.Changes.{Change, create, remove, link, rename, exchange, create_tag, remove_tag, link_tag, rename_tag, exchange_tag, tag_of, value_of, field_of}
-use Rattle.log.specs.Logged.{Log, has_room, append}
+use Rattle.tree_log.specs.Changes.{Change, create, remove, link, rename, exchange, create_tag, remove_tag, link_tag, rename_tag, exchange_tag, tag_of, value_of, field_of}
+use Rattle.tree_log.specs.Logged.{Log, has_room, append}
 use Rattle.log_calls.specs.Logs.{log_of, Fits, full_reply}
 
 -- ---- a field whose value is a number, then a name

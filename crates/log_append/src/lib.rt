@@ -2,8 +2,8 @@
 ghost use Rattle.std.specs.Prelude.{◌≡◌, ◌++◌, ◌+◌, ◌≤◌, leb, length};
 ghost use Rattle.policy.specs.Fields.{bytes_of, header};
 ghost use Rattle.policy_write.specs.Written.{field_bytes};
-ghost use Rattle.log.specs.Changes.{create, remove, link, rename, exchange, field_of, max_value};
-ghost use Rattle.log.specs.Logged.{append};
+ghost use Rattle.tree_log.specs.Changes.{create, remove, link, rename, exchange, field_of, max_value};
+ghost use Rattle.tree_log.specs.Logged.{append};
 ghost use Rattle.log_calls.specs.Logs.{log_of, Fits, full_reply};
 
 use access::errno::{Errno, Reply};

@@ -21,12 +21,12 @@ use Rattle.named.specs.Tree.{new_name}
 use Rattle.names.specs.Names.{name_checks}
 use Rattle.named.specs.Calls.{outcome_named, reply_named}
 use Rattle.named.proofs.Made.{core-sound}
-use Rattle.log.specs.Changes.{Change, create, remove, link, rename, exchange, call_of, field_of}
-use Rattle.log.specs.Tree.{tree_of, create_place, remove_place, move_place, exchange_place, tree_checks, idle}
-use Rattle.log.specs.Logged.{Log, has_room, append, alters, enters, logged_outcome, logged_log}
-use Rattle.log.proofs.Trees.{same_self}
-use Rattle.log.proofs.Idle.{same-idle}
-use Rattle.log.proofs.Accepted.{Accepted, accepted, unaccepted}
+use Rattle.tree_log.specs.Changes.{Change, create, remove, link, rename, exchange, call_of, field_of}
+use Rattle.tree_log.specs.Tree.{tree_of, create_place, remove_place, move_place, exchange_place, tree_checks, idle}
+use Rattle.tree_log.specs.Logged.{Log, has_room, append, alters, enters, logged_outcome, logged_log}
+use Rattle.tree_log.proofs.Trees.{same_self}
+use Rattle.tree_log.proofs.Idle.{same-idle}
+use Rattle.tree_log.proofs.Accepted.{Accepted, accepted, unaccepted}
 use Rattle.log_calls.specs.Logs.{Narrow, Fits, full_reply, without_room}
 
 done_not : (r : Reply) → is_done r ≡ not (is_refused r)

@@ -5,8 +5,8 @@ use Rattle.access.specs.Reply.{is_refused}
 use Rattle.access.specs.declared.errno.Reply.{Reply}
 use Rattle.access.specs.declared.errno.Reply.TheVariants.{Refused}
 use Rattle.named.specs.Named.{Named, NamedOutcome, named_outcome}
-use Rattle.log.specs.Changes.{Change, create, remove, link, rename, exchange, value_of, field_of, max_value}
-use Rattle.log.specs.Logged.{Log, has_room}
+use Rattle.tree_log.specs.Changes.{Change, create, remove, link, rename, exchange, value_of, field_of, max_value}
+use Rattle.tree_log.specs.Logged.{Log, has_room}
 
 -- the bytes that a log may take, and how many of them are written
 abbrev pub log_of : List ℕ → ℕ → Log

@@ -20,8 +20,8 @@ use Rattle.names.specs.Names.{max_name, name_checks, put_name, clear_name, beare
 use Rattle.named.specs.Tree.{new_name, new_names, renamed_names, swapped_names}
 use Rattle.named.proofs.Listed.{name_ok}
 use Rattle.named.proofs.Orders.{new_early}
-use Rattle.log.specs.Changes.{Change, create, remove, link, rename, exchange}
-use Rattle.log.specs.Tree.{Tree, create_place, move_place, no_entry, no_object, tree_checks, changed, idle}
+use Rattle.tree_log.specs.Changes.{Change, create, remove, link, rename, exchange}
+use Rattle.tree_log.specs.Tree.{Tree, create_place, move_place, no_entry, no_object, tree_checks, changed, idle}
 use Rattle.log_checks.specs.Checks.{tree_with}
 use Rattle.log_checks.proofs.Places.{create_refuses, move_refuses}
 use Rattle.log_changes.specs.Tried.{tried_as, accepted, tried}

@@ -9,8 +9,8 @@ use lib.ListN.{length, drop, length-drop}
 use lib.Seq.{take_all}
 use Rattle.laws.specs.Cells.{part}
 use Rattle.laws.proofs.Bools.{split}
-use Rattle.log.specs.Changes.{Change, create, remove, link, rename, exchange, create_tag, remove_tag, link_tag, rename_tag, exchange_tag, max_value, Read, Listed, Unlisted, read_create, read_remove, read_move, read_exchange, read_value, read_field}
-use Rattle.log.specs.Tree.{Tree}
+use Rattle.tree_log.specs.Changes.{Change, create, remove, link, rename, exchange, create_tag, remove_tag, link_tag, rename_tag, exchange_tag, max_value, Read, Listed, Unlisted, read_create, read_remove, read_move, read_exchange, read_value, read_field}
+use Rattle.tree_log.specs.Tree.{Tree}
 use Rattle.log_fields.specs.declared.Seen.{Seen}
 use Rattle.log_fields.specs.declared.Seen.TheVariants.{Create, Remove, Link, Rename, Exchange}
 use Rattle.log_fields.specs.declared.Seen.TheVariants as fields

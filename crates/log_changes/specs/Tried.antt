@@ -1,8 +1,8 @@
 -- A change tried on a tree, as code tests it: the objects tell whether it would leave the tree as it is.
 use Rattle.std.specs.Prelude.{Bool, true, false, cond, not, ◌&&◌, eqb}
 use Rattle.laws.specs.Refusals.{first}
-use Rattle.log.specs.Changes.{Change, Read, Listed, Unlisted}
-use Rattle.log.specs.Tree.{Tree, tree_checks, changed, idle}
+use Rattle.tree_log.specs.Changes.{Change, Read, Listed, Unlisted}
+use Rattle.tree_log.specs.Tree.{Tree, tree_checks, changed, idle}
 
 -- nothing refuses it, and it alters something
 unfoldable pub accepted : Tree → Change → Bool

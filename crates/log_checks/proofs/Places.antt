@@ -2,7 +2,7 @@
 use mathlib.Core.List.{List}
 use Prim.Native.Nat.{ℕ}
 use Rattle.laws.proofs.Refusals.{Refusing}
-use Rattle.log.specs.Tree.{create_place, move_place, exchange_place}
+use Rattle.tree_log.specs.Tree.{create_place, move_place, exchange_place}
 
 pub create_refuses : (es : List ℕ) (d : ℕ) → Refusing (create_place es d)
 unfolding create_place

@@ -4,7 +4,7 @@ use Rattle.laws.specs.Refusals.{Check, ◌⇒◌}
 use Rattle.access.specs.Errno.{EPERM, EINVAL}
 use Rattle.tables.specs.Tables.{is_dir}
 use Rattle.tree.specs.Entries.{unknown_kind}
-use Rattle.log.specs.Tree.{Tree, no_entry, no_object}
+use Rattle.tree_log.specs.Tree.{Tree, no_entry, no_object}
 
 -- entries, names, next object number
 abbrev pub tree_with : List ℕ → List ℕ → ℕ → Tree

@@ -2,8 +2,8 @@
 ghost use Rattle.std.specs.Prelude.{◌≡◌, []};
 ghost use Rattle.laws.specs.Refusals.{first};
 ghost use Rattle.names.specs.Names.{bearer};
-ghost use Rattle.log.specs.Changes.{create, remove, link, rename, exchange};
-ghost use Rattle.log.specs.Tree.{create_place, move_place, exchange_place, tree_checks};
+ghost use Rattle.tree_log.specs.Changes.{create, remove, link, rename, exchange};
+ghost use Rattle.tree_log.specs.Tree.{create_place, move_place, exchange_place, tree_checks};
 ghost use Rattle.log_checks.specs.Checks.{tree_with, create_room, link_room};
 
 use access::errno::Errno;

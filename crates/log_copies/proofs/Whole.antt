@@ -10,8 +10,8 @@ use Rattle.names.specs.Names.{name_width}
 use Rattle.names.proofs.Facts.{names}
 use Rattle.policy.specs.Fields.{pieces}
 use Rattle.named.proofs.Made.{core-sound, names-sound}
-use Rattle.log.specs.Tree.{Tree, with_tree}
-use Rattle.log.specs.Replay.{replayed}
+use Rattle.tree_log.specs.Tree.{Tree, with_tree}
+use Rattle.tree_log.specs.Replay.{replayed}
 use Rattle.log_checks.specs.Checks.{tree_with}
 use Rattle.log_replay.specs.declared.Replay.{Replay}
 use Rattle.log_replay.specs.declared.Replay.TheVariants.{Applied, Faulty}

@@ -1,6 +1,6 @@
 -- What a replay leaves of the tree that it starts from.
-use Rattle.log.specs.Tree.{Tree}
-use Rattle.log.specs.Replay.{Replayed, Applied, Faulty}
+use Rattle.tree_log.specs.Tree.{Tree}
+use Rattle.tree_log.specs.Replay.{Replayed, Applied, Faulty}
 
 -- "and the .. tables stay at the starting state"
 unfoldable pub leaves : Tree → Replayed → Tree

@@ -1,7 +1,7 @@
 // A log replayed on a tree, whole or not at all.
 ghost use Rattle.std.specs.Prelude.{◌≡◌};
 ghost use Rattle.policy.specs.Fields.{pieces};
-ghost use Rattle.log.specs.Replay.{replayed};
+ghost use Rattle.tree_log.specs.Replay.{replayed};
 ghost use Rattle.log_checks.specs.Checks.{tree_with};
 ghost use Rattle.log_replay.specs.Replays.{SoundTree, replayed_as};
 ghost use Rattle.log_copies.specs.Whole.{leaves};

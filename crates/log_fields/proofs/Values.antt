@@ -5,7 +5,7 @@ use Prim.Native.Nat.{ℕ, ◌+◌, ◌*◌, ◌≤◌, ◌<◌}
 use native.Mathlib.Omega.{arith}
 use lib.ListN.{length, get_or, drop}
 use borrow.Author.Tests.{ne_eqb, lt-ltb, le-ltb}
-use Rattle.log.specs.Changes.{Change, Listed, Unlisted, create, remove, link, rename, exchange, max_value, read_create, read_remove, read_move, read_exchange, read_value, read_field}
+use Rattle.tree_log.specs.Changes.{Change, Listed, Unlisted, create, remove, link, rename, exchange, max_value, read_create, read_remove, read_move, read_exchange, read_value, read_field}
 
 -- the number at a place
 abbrev pub num : List ℕ → ℕ → ℕ

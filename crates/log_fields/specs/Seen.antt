@@ -1,7 +1,7 @@
 -- What the code answers of a value, as the definition's.
 use Rattle.std.specs.Prelude.{List, ℕ, drop}
-use Rattle.log.specs.Changes.{Read, Listed, create, remove, link, rename, exchange}
-use Rattle.log.specs.Changes as log
+use Rattle.tree_log.specs.Changes.{Read, Listed, create, remove, link, rename, exchange}
+use Rattle.tree_log.specs.Changes as log
 use Rattle.log_fields.specs.declared.Seen.{Seen}
 use Rattle.log_fields.specs.declared.Seen.TheVariants.{Create, Remove, Link, Rename, Exchange, Unlisted}
 

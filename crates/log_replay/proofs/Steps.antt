@@ -11,12 +11,12 @@ use Rattle.policy.specs.Fields.{header, stray, pieces}
 use Rattle.policy.specs.Front.{WholeAt}
 use Rattle.policy.proofs.Parts.{part_none}
 use Rattle.policy.proofs.Pieces.{pieces_nil}
-use Rattle.log.specs.Changes.{Change, Read, Listed, Unlisted, read_field}
-use Rattle.log.specs.Tree.{Tree, with_tree, changed, fits}
-use Rattle.log.specs.Replay.{Replayed, Applied, Faulty, on_read, replayed}
-use Rattle.log.proofs.Trees.{tree_back}
-use Rattle.log.proofs.Idle.{fits-idle}
-use Rattle.log.proofs.Kept.{one_kept}
+use Rattle.tree_log.specs.Changes.{Change, Read, Listed, Unlisted, read_field}
+use Rattle.tree_log.specs.Tree.{Tree, with_tree, changed, fits}
+use Rattle.tree_log.specs.Replay.{Replayed, Applied, Faulty, on_read, replayed}
+use Rattle.tree_log.proofs.Trees.{tree_back}
+use Rattle.tree_log.proofs.Idle.{fits-idle}
+use Rattle.tree_log.proofs.Kept.{one_kept}
 use Rattle.log_changes.specs.Tried.{Tried, accepted, tried_as, tried, tried_read}
 use Rattle.log_changes.proofs.Trying.{tried-made, tried-left}
 use Rattle.log_replay.specs.Replays.{SoundTree}

@@ -1,9 +1,9 @@
 -- The tree that a replay starts from, and what its code answers, as the definition's.
 use Rattle.std.specs.Prelude.{◌≡◌, true}
 use Rattle.named.specs.Named.{Named, named_sound}
-use Rattle.log.specs.Tree.{Tree, with_tree}
-use Rattle.log.specs.Replay.{Replayed}
-use Rattle.log.specs.Replay as log
+use Rattle.tree_log.specs.Tree.{Tree, with_tree}
+use Rattle.tree_log.specs.Replay.{Replayed}
+use Rattle.tree_log.specs.Replay as log
 use Rattle.log_replay.specs.declared.Replay.{Replay}
 use Rattle.log_replay.specs.declared.Replay.TheVariants.{Applied, Faulty}
 

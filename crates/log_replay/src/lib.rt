@@ -1,7 +1,7 @@
 // The fields of a log, tried one after another on a tree.
 ghost use Rattle.std.specs.Prelude.{◌≡◌};
 ghost use Rattle.policy.specs.Fields.{pieces};
-ghost use Rattle.log.specs.Replay.{replayed};
+ghost use Rattle.tree_log.specs.Replay.{replayed};
 ghost use Rattle.log_checks.specs.Checks.{tree_with};
 ghost use Rattle.log_replay.specs.Replays.{SoundTree, replayed_as};
 

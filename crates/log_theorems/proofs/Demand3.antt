@@ -15,11 +15,11 @@ use Rattle.theorems.proofs.Ports.{ports_stay}
 use Rattle.theorems.proofs.Reach.{threads_stay}
 use Rattle.named.specs.Named.{Named, named_sound}
 use Rattle.named.proofs.Made.{core-sound}
-use Rattle.log.specs.Changes.{Change, link}
-use Rattle.log.specs.Tree.{tree_of, with_tree}
-use Rattle.log.specs.Logged.{Log, enters, logged, outcome_logged, after_logged, reply_logged}
-use Rattle.log.specs.History.{Moment, moment, Step, ours, next, last, Allowed, Each, up_to}
-use Rattle.log.proofs.Kept.{kept-logged}
+use Rattle.tree_log.specs.Changes.{Change, link}
+use Rattle.tree_log.specs.Tree.{tree_of, with_tree}
+use Rattle.tree_log.specs.Logged.{Log, enters, logged, outcome_logged, after_logged, reply_logged}
+use Rattle.tree_log.specs.History.{Moment, moment, Step, ours, next, last, Allowed, Each, up_to}
+use Rattle.tree_log.proofs.Kept.{kept-logged}
 use Rattle.log_theorems.specs.Claim.{Item, call, counted, call_at, after_item, all_items, Wrote, ends_step, frees_step, Fair, Within, Kept, Outlives, Lives, Demand3}
 use Rattle.log_theorems.proofs.Events.{FairE, SafeE, EachE, all_e, jump_stays, all_e_stays, link-ends, entries_e, link_e}
 use Rattle.log_theorems.proofs.Histories.{each-up_to, each_split, last_split, steps_of, steps_core, steps_within, steps_lives, steps_spare, steps_kept}

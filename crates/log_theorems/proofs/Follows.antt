@@ -17,16 +17,16 @@ use Rattle.named.specs.Calls.{NamedCall, outcome_named, after_named, reply_named
 use Rattle.named.specs.Claim as names
 use Rattle.named.specs.Tree.{replaced_by}
 use Rattle.named.proofs.Translate.{translate, follows}
-use Rattle.log.specs.Changes.{Change, create, remove, link, rename, exchange, call_of, field_of}
-use Rattle.log.specs.Tree.{Tree, tree_of, changed, same_tree, idle}
-use Rattle.log.specs.Logged.{Log, has_room, alters, enters, logged_outcome, Unlogged, LogCall, plain, logged, replay, outcome_logged, after_logged}
-use Rattle.log.specs.History.{Moment, Step, ours, other, fresh, next, Leaves, Allowed}
-use Rattle.log.proofs.Quiet.{quiet}
-use Rattle.log.proofs.Trees.{same_self}
-use Rattle.log.proofs.Idle.{same-idle}
-use Rattle.log.proofs.Accepted.{accepted}
-use Rattle.log.proofs.Entering.{stays_out}
-use Rattle.log.proofs.Unbroken.{leaves-tree}
+use Rattle.tree_log.specs.Changes.{Change, create, remove, link, rename, exchange, call_of, field_of}
+use Rattle.tree_log.specs.Tree.{Tree, tree_of, changed, same_tree, idle}
+use Rattle.tree_log.specs.Logged.{Log, has_room, alters, enters, logged_outcome, Unlogged, LogCall, plain, logged, replay, outcome_logged, after_logged}
+use Rattle.tree_log.specs.History.{Moment, Step, ours, other, fresh, next, Leaves, Allowed}
+use Rattle.tree_log.proofs.Quiet.{quiet}
+use Rattle.tree_log.proofs.Trees.{same_self}
+use Rattle.tree_log.proofs.Idle.{same-idle}
+use Rattle.tree_log.proofs.Accepted.{accepted}
+use Rattle.tree_log.proofs.Entering.{stays_out}
+use Rattle.tree_log.proofs.Unbroken.{leaves-tree}
 use Rattle.log_theorems.specs.Claim.{ChangesTree, Wrote, ends_logged, ends_step, frees_logged, frees_step}
 
 -- ---- what it tells that the calls bs of document 01 follow a call c by the thread t

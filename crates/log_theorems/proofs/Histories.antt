@@ -8,9 +8,9 @@ use Rattle.theorems.specs.Calls.{Call, after_all}
 use Rattle.theorems.specs.Claim as base
 use Rattle.named.specs.Named.{named_sound}
 use Rattle.named.proofs.Lists.{after-join, within-join, kept-join, lives-join}
-use Rattle.log.specs.Logged.{logged, outcome_logged}
-use Rattle.log.specs.History.{Moment, Step, ours, other, fresh, next, last, Allowed, Each, Unbroken, wrote_within, keep_if, up_to}
-use Rattle.log.proofs.Kept.{kept-logged}
+use Rattle.tree_log.specs.Logged.{logged, outcome_logged}
+use Rattle.tree_log.specs.History.{Moment, Step, ours, other, fresh, next, last, Allowed, Each, Unbroken, wrote_within, keep_if, up_to}
+use Rattle.tree_log.proofs.Kept.{kept-logged}
 use Rattle.log_theorems.specs.Claim.{Wrote, ends_step, frees_step}
 use Rattle.log_theorems.proofs.Follows.{step_base, follows_step}
 

@@ -9,12 +9,12 @@ use Rattle.theorems.specs.Calls.{Call, after, after_all}
 use Rattle.theorems.specs.Claim as base
 use Rattle.named.specs.Named.{Named, named_sound, NamedOutcome}
 use Rattle.named.proofs.Made.{core-sound}
-use Rattle.log.specs.Tree.{tree_of, with_tree}
-use Rattle.log.specs.Replay.{replay_named}
-use Rattle.log.specs.Logged.{Log, plain, logged, replay, outcome_logged, after_logged}
-use Rattle.log.specs.History.{Moment, moment, Step, last, Allowed, up_to}
-use Rattle.log.proofs.Unbroken.{replay-unbroken}
-use Rattle.log.proofs.Kept.{kept-logged, replay-left}
+use Rattle.tree_log.specs.Tree.{tree_of, with_tree}
+use Rattle.tree_log.specs.Replay.{replay_named}
+use Rattle.tree_log.specs.Logged.{Log, plain, logged, replay, outcome_logged, after_logged}
+use Rattle.tree_log.specs.History.{Moment, moment, Step, last, Allowed, up_to}
+use Rattle.tree_log.proofs.Unbroken.{replay-unbroken}
+use Rattle.tree_log.proofs.Kept.{kept-logged, replay-left}
 use Rattle.log_theorems.specs.Claim.{Item, call, counted, call_at, after_item, all_items, EachItem, Counts, Fair, Within, Spares, Kept, Outlives, Lives}
 use Rattle.log_theorems.proofs.Events.{Event, call as one, jump, jumped, after_e, all_e, FairE, SafeE, EachE, all_join, each-join}
 use Rattle.log_theorems.proofs.Follows.{base_of, follows_plain, follows_logged}

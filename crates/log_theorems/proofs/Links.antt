@@ -12,10 +12,10 @@ use Rattle.theorems.proofs.Links.{link_changes}
 use Rattle.named.specs.Named.{Named, NamedOutcome}
 use Rattle.named.specs.Calls.{NamedCall, reply_named, outcome_named}
 use Rattle.named.proofs.Translate.{follows, link-turn, link-reply}
-use Rattle.log.specs.Changes.{link, call_of, field_of}
-use Rattle.log.specs.Tree.{Tree}
-use Rattle.log.specs.Logged.{Log, has_room, alters, enters, logged_outcome, logged, outcome_logged, after_logged, reply_logged}
-use Rattle.log.proofs.Entering.{still-same}
+use Rattle.tree_log.specs.Changes.{link, call_of, field_of}
+use Rattle.tree_log.specs.Tree.{Tree}
+use Rattle.tree_log.specs.Logged.{Log, has_room, alters, enters, logged_outcome, logged, outcome_logged, after_logged, reply_logged}
+use Rattle.tree_log.proofs.Entering.{still-same}
 use Rattle.log_theorems.specs.Claim.{ChangesTree}
 
 pub record MadeLink (N : Named) (u s d : ℕ) (name : List ℕ) (L : Log) (n : ℕ) : Type 0 where

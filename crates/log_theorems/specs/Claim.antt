@@ -8,9 +8,9 @@ use Rattle.theorems.specs.Calls.{is_done}
 use Rattle.theorems.specs.Claim.{domain_of, holds, port_grants, may_reach, Grown}
 use Rattle.named.specs.Named.{Named, named_sound}
 use Rattle.named.specs.Calls.{caller_named, would_free_named, frees_named, ends_named}
-use Rattle.log.specs.Changes.{link, call_of}
-use Rattle.log.specs.Logged.{Log, written, enters, LogCall, plain, logged, replay, after_logged, reply_logged}
-use Rattle.log.specs.History.{Moment, moment, Step, ours, other, fresh, next, last, Each, Unbroken, up_to}
+use Rattle.tree_log.specs.Changes.{link, call_of}
+use Rattle.tree_log.specs.Logged.{Log, written, enters, LogCall, plain, logged, replay, after_logged, reply_logged}
+use Rattle.tree_log.specs.History.{Moment, moment, Step, ours, other, fresh, next, last, Each, Unbroken, up_to}
 
 -- ---- the calls of the list
 pub data Item : Type 0 where

@@ -1,4 +1,6 @@
 // Who bears a name in a directory.
+#![tactic(auto)]
+
 ghost use Rattle.std.specs.Prelude.{◌≡◌, cond, ◌&&◌, ◌/◌, min, ltb};
 ghost use Rattle.access.specs.Limits.{max_entries};
 ghost use Rattle.tables.specs.Tables.{entry_width};

@@ -1,4 +1,6 @@
 // Which names are refused.
+#![tactic(auto)]
+
 ghost use Rattle.std.specs.Prelude.{◌≡◌, ◌∷◌, []};
 ghost use Rattle.laws.specs.Tests.{elem};
 ghost use Rattle.laws.specs.Refusals.{first};

@@ -1,4 +1,6 @@
 // The table of names: a row of bytes for each entry, the length of its name, the name, then zeros.
+#![tactic(auto)]
+
 ghost use Rattle.std.specs.Prelude.{◌≡◌, ◌∷◌, ◌≤◌, min, length, get_or, set};
 ghost use Rattle.names.specs.Names.{max_name, same_bytes, row_at, name_of, name_at, put_name, clear_name, drop_name, swap_names};
 

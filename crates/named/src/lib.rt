@@ -1,1 +1,2 @@
 // No code: the calls on tables with names, and what holds of all of them.
+#![tactic(auto)]

@@ -1,4 +1,5 @@
 // The sizes of names and of paths. The rest is definitions and laws: the names of entries, when they are sound, and how a path is looked up.
+#![tactic(auto)]
 
 // The longest name.
 pub const MAX_NAME: usize = 48;

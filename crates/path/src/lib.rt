@@ -1,4 +1,6 @@
 // The components of a path: what stands between its slashes.
+#![tactic(auto)]
+
 ghost use Rattle.std.specs.Prelude.{◌≡◌, ◌<◌, length};
 ghost use Rattle.names.specs.Paths.{starts_at, component_start, component_end, component};
 ghost use Rattle.path.specs.Span.{shown_start};

@@ -1,5 +1,6 @@
 // Policy files: tags, sizes and answers. The rest is definitions and laws: which files are fine, what a name means in two of them, and which rules a
 // ruleset's part has.
+#![tactic(auto)]
 
 // The tags of fields.
 pub const RULESET_TAG: u8 = 1;

@@ -1,4 +1,6 @@
 // A new layer: its record, and how it is counted.
+#![tactic(auto)]
+
 ghost use Rattle.std.specs.Prelude.{◌≡◌, ◌+◌, ◌≤◌, ◌<◌};
 ghost use Rattle.access.specs.Limits.{max_layers, max_pool};
 ghost use Rattle.tables.specs.Tables.{layers_used, pool_used};

@@ -1,4 +1,6 @@
 // What a domain answers, by the order of its layers and the rows of what they deny: one pass over the order.
+#![tactic(auto)]
+
 ghost use Rattle.std.specs.Prelude.{◌≡◌, length};
 ghost use Rattle.access.specs.Limits.{max_domain, max_layers};
 ghost use Rattle.tables.specs.Tables.{path_rule};

@@ -1,4 +1,6 @@
 // When a rule, for a path or a port, is refused.
+#![tactic(auto)]
+
 ghost use Rattle.tables.specs.Tables.{tables};
 ghost use Rattle.std.specs.Prelude.{◌≡◌, ◌<◌};
 ghost use Rattle.laws.specs.Refusals.{first};

@@ -1,4 +1,6 @@
 // Rules added to a ruleset.
+#![tactic(auto)]
+
 ghost use Rattle.std.specs.Prelude.{◌≡◌, ◌^◌, ◌<◌};
 ghost use Rattle.access.specs.Limits.{max_rules};
 ghost use Rattle.tables.specs.Tables.{tables, object, path_rule, port_rule};

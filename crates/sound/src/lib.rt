@@ -1,4 +1,6 @@
 // The soundness test of the tables: what every call does first.
+#![tactic(auto)]
+
 ghost use Rattle.std.specs.Prelude.{◌≡◌, true, ◌*◌, length};
 ghost use Rattle.access.specs.Limits.{max_rulesets};
 ghost use Rattle.tables.specs.Tables.{system_width, ruleset_width, tables, lengths_right};

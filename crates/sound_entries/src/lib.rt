@@ -1,4 +1,6 @@
 // The soundness test of the entries, whose rows from `end` on are free.
+#![tactic(auto)]
+
 ghost use Rattle.std.specs.Prelude.{◌≡◌, true, ◌*◌, replicate};
 ghost use Rattle.access.specs.Limits.{max_entries};
 ghost use Rattle.sound_objects.specs.Rows.{Ends};

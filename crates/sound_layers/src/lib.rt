@@ -1,4 +1,6 @@
 // The soundness test of each layer record by itself. `taken` pool rules are in use.
+#![tactic(auto)]
+
 ghost use Rattle.std.specs.Prelude.{◌≡◌, ◌*◌, ◌<◌, ◌≤◌, length};
 ghost use Rattle.laws.specs.Tests.{all_below};
 ghost use Rattle.access.specs.Limits.{max_entries, max_layers, max_pool};

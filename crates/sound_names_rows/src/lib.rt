@@ -1,4 +1,6 @@
 // The rows of the table of names, each by itself: a name in its form, or zeros.
+#![tactic(auto)]
+
 ghost use Rattle.std.specs.Prelude.{◌≡◌, cond, ◌≤◌, length};
 ghost use Rattle.laws.specs.Cells.{zeros};
 ghost use Rattle.names.specs.Names.{max_name, name_width, is_named, name_sound};

@@ -1,4 +1,6 @@
 // Walks along chains of the entries whose names fall into one bucket, in which a name is looked for.
+#![tactic(auto)]
+
 ghost use Rattle.std.specs.Prelude.{◌≡◌, ◌*◌, ◌<◌, length};
 ghost use Rattle.access.specs.Limits.{max_entries};
 ghost use Rattle.names.specs.Names.{name_width};

@@ -1,4 +1,6 @@
 // The rows of the table of names, read by words, and compared.
+#![tactic(auto)]
+
 ghost use Rattle.std.specs.Prelude.{◌≡◌, ◌+◌, ◌≤◌, ◌<◌, length};
 ghost use Rattle.names.specs.Names.{name_width, same_bytes};
 ghost use Rattle.sound_names_words.specs.Words.{byte_end, word_bytes, word_at};

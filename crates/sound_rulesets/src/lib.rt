@@ -1,4 +1,6 @@
 // The soundness test of the rulesets.
+#![tactic(auto)]
+
 ghost use Rattle.std.specs.Prelude.{◌≡◌, ◌*◌, ◌<◌, length};
 ghost use Rattle.access.specs.Limits.{max_entries, max_rulesets};
 ghost use Rattle.tables.specs.Tables.{entry_width, ruleset_width};

@@ -1,5 +1,7 @@
 // The soundness test of the layers and the pool: each record, no pool place in two runs, what is in use counted, free space zero. `used`
 // layers and `taken` pool rules are in use.
+#![tactic(auto)]
+
 ghost use Rattle.std.specs.Prelude.{◌≡◌, ◌*◌, ◌<◌, ◌≤◌, length};
 ghost use Rattle.laws.specs.Tests.{all_below};
 ghost use Rattle.access.specs.Limits.{max_entries, max_layers, max_pool};

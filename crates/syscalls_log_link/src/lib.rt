@@ -3,8 +3,8 @@
 ghost use Rattle.tables.specs.Tables.{tables};
 ghost use Rattle.std.specs.Prelude.{◌≡◌};
 ghost use Rattle.named.specs.Named.{with_names, named_outcome};
-ghost use Rattle.log.specs.Changes.{link};
-ghost use Rattle.log.specs.Logged.{logged_outcome, logged_log};
+ghost use Rattle.tree_log.specs.Changes.{link};
+ghost use Rattle.tree_log.specs.Logged.{logged_outcome, logged_log};
 ghost use Rattle.log_calls.specs.Logs.{log_of};
 
 use access::errno::Reply;

@@ -5,8 +5,8 @@ ghost use Rattle.std.specs.Prelude.{◌≡◌};
 ghost use Rattle.tree.specs.Entries.{replacing, same_object};
 ghost use Rattle.names.specs.Names.{bearer};
 ghost use Rattle.named.specs.Named.{with_names, named_outcome};
-ghost use Rattle.log.specs.Changes.{rename, exchange};
-ghost use Rattle.log.specs.Logged.{logged_outcome, logged_log};
+ghost use Rattle.tree_log.specs.Changes.{rename, exchange};
+ghost use Rattle.tree_log.specs.Logged.{logged_outcome, logged_log};
 ghost use Rattle.log_calls.specs.Logs.{log_of};
 
 use access::errno::Reply;

@@ -11,9 +11,9 @@ use Rattle.tables.specs.Tables.{tables, counter}
 use Rattle.policy.specs.Fields.{pieces}
 use Rattle.named.specs.Named.{Named, with_names, named_sound, named_outcome, named_refused}
 use Rattle.named.proofs.Made.{named-goes}
-use Rattle.log.specs.Tree.{Tree, tree_of}
-use Rattle.log.specs.Replay.{replayed, replay_outcome, replay_named}
-use Rattle.log.proofs.Trees.{tree-own}
+use Rattle.tree_log.specs.Tree.{Tree, tree_of}
+use Rattle.tree_log.specs.Replay.{replayed, replay_outcome, replay_named}
+use Rattle.tree_log.proofs.Trees.{tree-own}
 use Rattle.log_checks.specs.Checks.{tree_with}
 use Rattle.log_replay.specs.declared.Replay.{Replay}
 use Rattle.log_replay.specs.declared.Replay.TheVariants.{Applied, Faulty}

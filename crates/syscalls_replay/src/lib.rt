@@ -2,7 +2,7 @@
 ghost use Rattle.tables.specs.Tables.{tables};
 ghost use Rattle.std.specs.Prelude.{◌≡◌};
 ghost use Rattle.named.specs.Named.{with_names, named_outcome};
-ghost use Rattle.log.specs.Replay.{replay_named};
+ghost use Rattle.tree_log.specs.Replay.{replay_named};
 
 use access::errno::{Errno, Reply};
 use cells::write;

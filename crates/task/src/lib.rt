@@ -1,4 +1,6 @@
 // Requests between threads: signals, and abstract UNIX sockets.
+#![tactic(auto)]
+
 ghost use Rattle.tables.specs.Tables.{tables};
 ghost use Rattle.std.specs.Prelude.{◌≡◌, not, ◌&&◌};
 ghost use Rattle.laws.specs.Tests.{any, elem};

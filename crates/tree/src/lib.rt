@@ -1,4 +1,6 @@
 // What the calls that change the tree share: tests of entries and changes of rows.
+#![tactic(auto)]
+
 pub mod entries;
 
 // The entry that a rename replaces, if it replaces one.

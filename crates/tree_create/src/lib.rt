@@ -1,2 +1,4 @@
 // Create entries.
+#![tactic(auto)]
+
 pub mod create;

@@ -1,4 +1,6 @@
 // What a link, rename or exchange asks for.
+#![tactic(auto)]
+
 ghost use Rattle.std.specs.Prelude.{◌≡◌, true};
 ghost use Rattle.access.specs.declared.kinds.MaybeKind.TheVariants.{None};
 ghost use Rattle.fs.specs.NeedsTable.{NeedsTable};

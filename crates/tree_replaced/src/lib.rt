@@ -1,4 +1,6 @@
 // Tests of the entry that a rename replaces, if there is one.
+#![tactic(auto)]
+
 ghost use Rattle.std.specs.Prelude.{◌≡◌, not, ◌&&◌, eqb};
 ghost use Rattle.tables.specs.Tables.{parent, live, is_dir};
 ghost use Rattle.tree.specs.Entries.{replacing, same_object, is_full};

@@ -1,4 +1,6 @@
 // The verdict of a domain: one walk from the youngest layer to the oldest, for any question.
+#![tactic(auto)]
+
 ghost use Rattle.std.specs.Prelude.{◌≡◌, max};
 ghost use Rattle.access.specs.Limits.{max_domain};
 ghost use Rattle.judge.specs.Domain.{chain};

@@ -1,7 +1,7 @@
 -- Assumes nothing.
 use native.Mathlib.Omega.{arith}
 use borrow.Author.Rules.{rules}
-use Rattle.log.specs.Changes.{value_of}
+use Rattle.tree_log.specs.Changes.{value_of}
 use Rattle.log_calls.specs.Logs.{Narrow}
 use Rattle.log_append.proofs.Fields.{link-field, fit_room}
 use Rattle.log_append.proofs.append_link.Statement.{statement}

@@ -1,6 +1,6 @@
 -- Assumes nothing.
 use Rattle.laws.proofs.Refusals.{first-is, refusals}
-use Rattle.log.specs.Tree.{create_place}
+use Rattle.tree_log.specs.Tree.{create_place}
 use Rattle.log_checks.proofs.create_place.Statement.{statement}
 use Rattle.log_checks.proofs.create_place.Tie as tie
 

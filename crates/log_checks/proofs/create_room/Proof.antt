@@ -1,7 +1,7 @@
 -- Assumes nothing.
 use borrow.Author.Tests.{le-leb, lt-leb}
 use Rattle.laws.proofs.Refusals.{first-is, none, hit, miss, hit_by, miss_by, hit_ge_by, miss_lt_by}
-use Rattle.log.specs.Tree.{no_entry, no_object}
+use Rattle.tree_log.specs.Tree.{no_entry, no_object}
 use Rattle.log_checks.specs.Checks.{create_room}
 use Rattle.log_checks.proofs.create_room.Statement.{statement}
 use Rattle.log_checks.proofs.create_room.Tie as tie

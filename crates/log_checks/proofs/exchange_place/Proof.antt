@@ -1,6 +1,6 @@
 -- Assumes nothing.
 use Rattle.laws.proofs.Refusals.{first-is, refusals}
-use Rattle.log.specs.Tree.{exchange_place}
+use Rattle.tree_log.specs.Tree.{exchange_place}
 use Rattle.log_checks.proofs.exchange_place.Statement.{statement}
 use Rattle.log_checks.proofs.exchange_place.Tie as tie
 

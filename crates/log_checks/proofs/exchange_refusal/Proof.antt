@@ -1,6 +1,6 @@
 -- Assumes nothing.
 use Rattle.laws.proofs.Refusals.{join_stop, join_go}
-use Rattle.log.specs.Tree.{tree_checks}
+use Rattle.tree_log.specs.Tree.{tree_checks}
 use Rattle.log_checks.proofs.Places.{exchange_refuses}
 use Rattle.log_checks.proofs.exchange_refusal.Statement.{statement}
 use Rattle.log_checks.proofs.exchange_refusal.Tie as tie

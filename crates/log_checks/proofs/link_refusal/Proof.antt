@@ -1,6 +1,6 @@
 -- Assumes nothing.
 use Rattle.laws.proofs.Refusals.{join_stop, join_go}
-use Rattle.log.specs.Tree.{tree_checks}
+use Rattle.tree_log.specs.Tree.{tree_checks}
 use Rattle.log_checks.specs.Checks.{link_room}
 use Rattle.named.proofs.Orders.{new_early}
 use Rattle.log_checks.proofs.Places.{move_refuses}

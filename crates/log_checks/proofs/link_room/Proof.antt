@@ -1,6 +1,6 @@
 -- Assumes nothing.
 use Rattle.laws.proofs.Refusals.{first-is, none, hit_by, miss_by, hit_ge_by, miss_lt_by}
-use Rattle.log.specs.Tree.{no_entry}
+use Rattle.tree_log.specs.Tree.{no_entry}
 use Rattle.log_checks.specs.Checks.{link_room}
 use Rattle.log_checks.proofs.link_room.Statement.{statement}
 use Rattle.log_checks.proofs.link_room.Tie as tie

@@ -1,6 +1,6 @@
 -- Assumes nothing.
 use Rattle.laws.proofs.Refusals.{first-is, refusals, none, hit_not, miss_not, miss_ne}
-use Rattle.log.specs.Tree.{move_place}
+use Rattle.tree_log.specs.Tree.{move_place}
 use Rattle.log_checks.proofs.move_place.Statement.{statement}
 use Rattle.log_checks.proofs.move_place.Tie as tie
 

@@ -1,6 +1,6 @@
 -- Assumes nothing.
 use Rattle.laws.proofs.Refusals.{first-is, refusals}
-use Rattle.log.specs.Tree.{remove_place, tree_checks}
+use Rattle.tree_log.specs.Tree.{remove_place, tree_checks}
 use Rattle.log_checks.proofs.remove_refusal.Statement.{statement}
 use Rattle.log_checks.proofs.remove_refusal.Tie as tie
 

@@ -6,7 +6,7 @@ use Rattle.laws.specs.Refusals.{Check, ◌⇒◌}
 use Rattle.laws.proofs.Refusals.{join_stop, join_go, first-is, none, hit_by, miss_by}
 use Rattle.access.specs.Errno.{EINVAL}
 use Rattle.tree.specs.Entries.{is_above}
-use Rattle.log.specs.Tree.{tree_checks}
+use Rattle.tree_log.specs.Tree.{tree_checks}
 use Rattle.named.proofs.Orders.{name_early}
 use Rattle.log_checks.proofs.Places.{move_refuses}
 use Rattle.log_checks.proofs.rename_refusal.Statement.{statement}

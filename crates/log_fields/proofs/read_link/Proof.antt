@@ -1,6 +1,6 @@
 -- Assumes nothing.
 use native.Mathlib.Omega.{arith}
-use Rattle.log.specs.Changes.{link}
+use Rattle.tree_log.specs.Changes.{link}
 use Rattle.log_fields.specs.Seen.{change_of}
 use Rattle.log_fields.proofs.Values.{move-short, move_by}
 use Rattle.log_fields.proofs.read_link.Statement.{statement}

@@ -1,6 +1,6 @@
 -- Assumes nothing.
 use native.Mathlib.Omega.{arith}
-use Rattle.log.specs.Changes.{rename}
+use Rattle.tree_log.specs.Changes.{rename}
 use Rattle.log_fields.specs.Seen.{change_of}
 use Rattle.log_fields.proofs.Values.{move-short, move_by}
 use Rattle.log_fields.proofs.read_rename.Statement.{statement}

@@ -10,7 +10,7 @@ use Rattle.policy.specs.Fields.{pieces}
 use Rattle.policy.specs.Front.{WholeAt}
 use Rattle.policy.proofs.Parts.{part-all}
 use Rattle.policy_fields.specs.Fields.{FieldIs}
-use Rattle.log.specs.Replay.{replayed}
+use Rattle.tree_log.specs.Replay.{replayed}
 use Rattle.log_checks.specs.Checks.{tree_with}
 use Rattle.log_replay.specs.Replays.{SoundTree, replayed_as}
 use Rattle.log_replay.proofs.Steps.{goes_on, sound-on, stops, tail, ends}

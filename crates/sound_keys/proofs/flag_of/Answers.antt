@@ -4,4 +4,4 @@ use Rattle.sound_keys.proofs.flag_of.Goals as goal
 
 pub returns : goal.returns
 unfolding flag_of
-returns c = search rules
+returns c = refl

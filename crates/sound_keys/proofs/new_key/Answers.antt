@@ -7,11 +7,6 @@ use Rattle.laws.proofs.Tests.{all_none, all_more, all_done, all_fails}
 use Rattle.sound_rules.specs.Rules.{same_key, new_key}
 use Rattle.sound_rules.proofs.Flags.{key-is}
 use Rattle.sound_keys.proofs.new_key.Goals as goal
-use Rattle.sound_keys.proofs.new_key.Goals.{After-same_key}
-
-told : (c : After-same_key invariant_loop decreases_loop) → same_key c.args.rules.now c.args.i c.loop-j.j ≡ c.same_key.result
-told c =
-    sym (c.same_key.ensures ∙ key-is c.args.rules.now c.args.i c.loop-j.j c.args.ty c.args.key c.requires.1.0 c.requires.1.1)
 
 pub loop-j-init : goal.loop-j-init
 unfolding new_key
@@ -21,12 +16,12 @@ loop-j-init c =
 pub returns-then-same_key : goal.returns-then-same_key
 unfolding new_key
 returns-then-same_key c =
-    all_fails _ _ c.loop-j.j (omega arith) (ap not (told c.before ∙ c.if-same_key.true))
+    all_fails _ _ c.loop-j.j (omega arith) (ap not (sym (c.same_key.ensures ∙ key-is c.args.rules.now c.args.i c.loop-j.j c.args.ty c.args.key c.requires.1.0 c.requires.1.1) ∙ c.if-same_key.true))
 
 pub loop-j-preserved : goal.loop-j-preserved
 unfolding new_key
 loop-j-preserved c =
-    (omega arith, all_more _ _ c.loop-j.invariant.1 (ap not (told c.before ∙ c.if-same_key.false)))
+    (omega arith, all_more _ _ c.loop-j.invariant.1 (ap not (sym (c.same_key.ensures ∙ key-is c.args.rules.now c.args.i c.loop-j.j c.args.ty c.args.key c.requires.1.0 c.requires.1.1) ∙ c.if-same_key.false)))
 
 pub returns : goal.returns
 unfolding new_key

@@ -14,5 +14,3 @@ invariant-loop-j l = (l.j ≤ l.i) × (all_below (λ k. not (same_key l.rules l.
 
 abbrev pub decreases-loop-j : goal.decreases-loop-j
 decreases-loop-j l = l.i - l.j
-
--- what is told of rule `j`

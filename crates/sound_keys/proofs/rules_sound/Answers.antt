@@ -11,11 +11,6 @@ use Rattle.sound_rules.specs.Rules.{rule_sound, new_key}
 use Rattle.sound_rules.specs.Flags.{Marked}
 use Rattle.sound_rules.proofs.Loop.{rule-is, rule_fails, key_fails, all-passed}
 use Rattle.sound_keys.proofs.rules_sound.Goals as goal
-use Rattle.sound_keys.proofs.rules_sound.Goals.{After-cells_sound}
-
-told : (c : After-cells_sound invariant_loop decreases_loop) → rule_sound c.args.entries.now c.args.next c.args.fs.0 c.args.net.0 c.args.rules.now c.loop-i.i ≡ c.cells_sound.result
-told c =
-    rule-is _ _ _ _ c.args.rules.now c.loop-i.i _ _ _ _ (rw (add-zero _)) refl refl c.cells_sound.ensures
 
 pub loop-i-init : goal.loop-i-init
 loop-i-init c =
@@ -27,7 +22,7 @@ cells_sound-requires c =
 
 pub returns-then-not-cells_sound : goal.returns-then-not-cells_sound
 returns-then-not-cells_sound c =
-    rule_fails _ _ _ _ _ c.loop-i.i (omega arith) (told c.before ∙ c.if-not-cells_sound.true)
+    rule_fails _ _ _ _ _ c.loop-i.i (omega arith) (rule-is _ _ _ _ c.args.rules.now c.loop-i.i _ _ _ _ (rw (add-zero _)) refl refl c.cells_sound.ensures ∙ c.if-not-cells_sound.true)
 
 pub slice_bounds-take_key-end : goal.slice_bounds-take_key-end
 slice_bounds-take_key-end c =
@@ -46,9 +41,9 @@ loop-i-preserved c =
     let l = c.loop-i in
     let r = c.if-not-take_key.false in (
       omega arith,
-      all_more _ _ l.invariant.1 (told c.before.before.before.before.before ∙ c.if-not-cells_sound.false),
+      all_more _ _ l.invariant.1 (rule-is _ _ _ _ c.args.rules.now c.loop-i.i _ _ _ _ (rw (add-zero _)) refl refl c.cells_sound.ensures ∙ c.if-not-cells_sound.false),
       all_more _ _ l.invariant.2 (sym c.take_key.ensures.0 ∙ r),
-      c.take_key.auto.1.0 ∙ l.invariant.3,
+      c.take_key.auto.seen ∙ l.invariant.3,
       c.take_key.ensures.1 r,
     )
 

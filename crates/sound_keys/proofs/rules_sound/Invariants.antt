@@ -18,5 +18,3 @@ invariant-loop-i l = (l.i ≤ l.n) × (all_below (rule_sound l.entries l.next l.
 
 abbrev pub decreases-loop-i : goal.decreases-loop-i
 decreases-loop-i l = l.n - l.i
-
--- what is told of rule `i`

@@ -23,11 +23,11 @@ add_entry-requires c =
 
 pub shape_of-heads-then-not-add_entry : goal.shape_of-heads-then-not-add_entry
 shape_of-heads-then-not-add_entry c =
-    c.add_entry.auto.links ∙ c.loop-e.invariant.1.1.size ∙ sym (zeros-length buckets c.requires.1.0)
+    c.add_entry.auto.heads ∙ c.loop-e.invariant.1.1.size ∙ sym (zeros-length buckets c.requires.1.0)
 
 pub shape_of-links-then-not-add_entry : goal.shape_of-links-then-not-add_entry
 shape_of-links-then-not-add_entry c =
-    c.add_entry.auto.1.1.0 ∙ c.loop-e.invariant.1.1.trees.size ∙ sym (zeros-length (branches * max_entries) c.requires.1.1)
+    c.add_entry.auto.links ∙ c.loop-e.invariant.1.1.trees.size ∙ sym (zeros-length (branches * max_entries) c.requires.1.1)
 
 pub returns-then-not-add_entry : goal.returns-then-not-add_entry
 returns-then-not-add_entry c =

@@ -4,8 +4,8 @@ use borrow.Author.Rules.{rules}
 use borrow.Author.Tests.{not-true, not-false}
 use Rattle.laws.proofs.Bools.{clash, either}
 use Rattle.named.specs.Calls.{outcome_named}
-use Rattle.log.specs.Changes.{rename, call_of}
-use Rattle.log.specs.Tree.{idle}
+use Rattle.tree_log.specs.Changes.{rename, call_of}
+use Rattle.tree_log.specs.Tree.{idle}
 use Rattle.log_calls.proofs.Cases.{logs_full, logs_idle, logs_refused, logs_enters, fits}
 use Rattle.log_append.proofs.Fields.{rename-room}
 use Rattle.syscalls_log_moves.proofs.rename.Statement.{statement}

@@ -2,8 +2,8 @@
 use mathlib.Core.Path.{refl}
 use borrow.Author.Rules.{rules}
 use Rattle.named.specs.Calls.{outcome_named}
-use Rattle.log.specs.Changes.{create, call_of}
-use Rattle.log.specs.Tree.{idle}
+use Rattle.tree_log.specs.Changes.{create, call_of}
+use Rattle.tree_log.specs.Tree.{idle}
 use Rattle.log_calls.proofs.Cases.{logs_full, logs_refused, logs_enters, fits}
 use Rattle.log_append.proofs.Fields.{create-room}
 use Rattle.syscalls_log_tree.proofs.create.Statement.{statement}

@@ -6,7 +6,7 @@ use borrow.Author.Tests.{not-false}
 use Rattle.tables.specs.Tables.{tables}
 use Rattle.named.specs.Named.{Named, with_names, named_sound}
 use Rattle.named.proofs.Replies.{named-unsound}
-use Rattle.log.specs.Replay.{replay_named}
+use Rattle.tree_log.specs.Replay.{replay_named}
 use Rattle.syscalls_replay.proofs.Replays.{starts, bad_field, applied}
 use Rattle.syscalls_replay.proofs.replay.Statement.{statement}
 use Rattle.syscalls_replay.proofs.replay.Tie as tie

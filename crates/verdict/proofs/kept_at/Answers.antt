@@ -1,0 +1,15 @@
+use mathlib.Core.Path.{sym, ◌∙◌}
+use borrow.Author.Tests.{eq-eqb, ne_eqb}
+use Rattle.verdict.proofs.kept_at.Goals as goal
+
+pub returns-then-k-ne0 : goal.returns-then-k-ne0
+returns-then-k-ne0 c =
+    rw (ne_eqb _ 0 c.if-k-ne0.true)
+
+pub returns-then-is_empty : goal.returns-then-is_empty
+returns-then-is_empty c =
+    rw (eq-eqb _ 0 c.if-k-ne0.false, sym c.is_empty.ensures ∙ c.if-is_empty.true)
+
+pub returns : goal.returns
+returns c =
+    rw (eq-eqb _ 0 c.if-k-ne0.false, sym c.is_empty.ensures ∙ c.if-is_empty.false)
