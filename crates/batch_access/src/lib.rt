@@ -1,4 +1,6 @@
 // The answers of a batch to requests for access to an entry or a port on sound tables: the call's checks up to and with the verdict.
+#![tactic(auto)]
+
 ghost use Rattle.std.specs.Prelude.{◌≡◌};
 ghost use Rattle.tables.specs.Tables.{tables};
 ghost use Rattle.judge.specs.Blame.{entry_reply, port_reply};

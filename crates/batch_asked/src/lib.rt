@@ -1,1 +1,2 @@
 // No code: what the checks before a verdict tell a batch.
+#![tactic(auto)]

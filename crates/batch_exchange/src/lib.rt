@@ -1,4 +1,6 @@
 // The answer of a batch to an exchange on sound tables: the call's checks up to and with the verdict.
+#![tactic(auto)]
+
 ghost use Rattle.std.specs.Prelude.{◌≡◌, true};
 ghost use Rattle.tables.specs.Tables.{tables};
 ghost use Rattle.sound.specs.Sound.{sound};

@@ -1,4 +1,6 @@
 // The requests of a batch, their names and the cells of their answers.
+#![tactic(auto)]
+
 ghost use Rattle.std.specs.Prelude.{◌≡◌, ◌+◌, ◌*◌, ◌≤◌, ◌<◌, length};
 ghost use Rattle.laws.specs.Refusals.{first};
 ghost use Rattle.laws.specs.Tests.{all_below};

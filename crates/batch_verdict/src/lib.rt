@@ -1,4 +1,6 @@
 // The verdict of a thread's domain by kept orders and rows: what the layers deny an entry is read, not climbed for.
+#![tactic(auto)]
+
 ghost use Rattle.std.specs.Prelude.{◌≡◌, true};
 ghost use Rattle.tables.specs.Tables.{live};
 ghost use Rattle.verdict.specs.declared.Question.{Question};

@@ -1,4 +1,6 @@
 // One layer's rules, as a part of the pool.
+#![tactic(auto)]
+
 ghost use Rattle.tables.specs.Tables.{tables};
 ghost use Rattle.std.specs.Prelude.{◌≡◌};
 ghost use Rattle.domain.specs.Layer.{layer_read, layer_code, layer_part};

@@ -1,4 +1,6 @@
 // The end of a thread: its row is free, and the layers that it alone reached are given back.
+#![tactic(auto)]
+
 ghost use Rattle.tables.specs.Tables.{tables};
 ghost use Rattle.std.specs.Prelude.{◌≡◌};
 ghost use Rattle.access.specs.Limits.{max_domain};

@@ -1,4 +1,6 @@
 // A layer given back: its record is free, its run closed.
+#![tactic(auto)]
+
 ghost use Rattle.tables.specs.Tables.{tables};
 ghost use Rattle.std.specs.Prelude.{◌≡◌, ◌+◌, ◌-◌, ◌<◌, leb, length, get_or};
 ghost use Rattle.laws.specs.Cells.{zero_row};

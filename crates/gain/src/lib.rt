@@ -1,1 +1,2 @@
 // No code: what a move would gain, and that EXDEV is never needless.
+#![tactic(auto)]

@@ -1,4 +1,6 @@
 // The fields of the log: a value read as a change.
+#![tactic(auto)]
+
 ghost use Rattle.std.specs.Prelude.{◌≡◌, ◌+◌, ◌*◌, ◌<◌, length, get_or};
 ghost use Rattle.tree_log.specs.Changes.{link, rename, read_create, read_remove, read_move, read_exchange, read_value, read_field};
 ghost use Rattle.log_fields.specs.Seen.{change_of};

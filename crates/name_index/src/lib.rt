@@ -1,4 +1,6 @@
 // Who bears a name in a directory, by the index that the soundness test of the names fills.
+#![tactic(auto)]
+
 ghost use Rattle.std.specs.Prelude.{◌≡◌, ◌≤◌, length};
 ghost use Rattle.names.specs.Names.{max_name, taken, bearer};
 ghost use Rattle.sound_names_chains.specs.Chains.{Indexed, IndexedIf};

@@ -1,4 +1,6 @@
 // The checks that come before document 01's own where a call takes a name: those up to the target's, then the name's.
+#![tactic(auto)]
+
 ghost use Rattle.std.specs.Prelude.{◌≡◌};
 ghost use Rattle.laws.specs.Refusals.{first};
 ghost use Rattle.named.specs.Tree.{create_target, link_target, new_name};

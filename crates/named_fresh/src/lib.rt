@@ -1,4 +1,6 @@
 // Fresh tables with names.
+#![tactic(auto)]
+
 ghost use Rattle.tables.specs.Tables.{tables};
 ghost use Rattle.std.specs.Prelude.{◌≡◌, length, replicate};
 ghost use Rattle.named.specs.Named.{with_names, named_outcome, freshened_named};

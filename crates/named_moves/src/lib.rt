@@ -1,4 +1,6 @@
 // Entries renamed and exchanged on tables with names.
+#![tactic(auto)]
+
 ghost use Rattle.std.specs.Prelude.{◌≡◌, true};
 ghost use Rattle.tables.specs.Tables.{tables};
 ghost use Rattle.sound.specs.Sound.{sound};

@@ -1,4 +1,6 @@
 // The names after a rename and after an exchange: two entries of one object keep theirs.
+#![tactic(auto)]
+
 ghost use Rattle.std.specs.Prelude.{◌≡◌, ◌≤◌, length};
 ghost use Rattle.names.specs.Names.{max_name};
 ghost use Rattle.named.specs.Tree.{renamed_names, swapped_names};

@@ -1,4 +1,6 @@
 // The soundness of all seven tables.
+#![tactic(auto)]
+
 ghost use Rattle.tables.specs.Tables.{tables};
 ghost use Rattle.std.specs.Prelude.{◌≡◌};
 ghost use Rattle.named.specs.Named.{with_names, named_sound};

@@ -1,4 +1,6 @@
 // One field: a tag, two bytes of length, and the value.
+#![tactic(auto)]
+
 ghost use Rattle.std.specs.Prelude.{◌≡◌, ◌<◌, ◌≤◌, length};
 ghost use Rattle.policy_fields.specs.Fields.{FieldIs};
 

@@ -1,4 +1,6 @@
 // The paths of entries: which of an object's is chosen, how long one is, and writing one.
+#![tactic(auto)]
+
 ghost use Rattle.std.specs.Prelude.{◌≡◌, true, cond, ◌&&◌, ◌-◌, ◌≤◌, ◌<◌, length};
 ghost use Rattle.std.proofs.lemmas.List.Edits.{sets};
 ghost use Rattle.access.specs.Limits.{max_entries};

@@ -1,4 +1,6 @@
 // Rules and groups: the field reader calls the group reader, and the group reader calls it back.
+#![tactic(auto)]
+
 ghost use Rattle.std.specs.Prelude.{◌≡◌, ◌+◌, ◌≤◌, ◌<◌, length};
 ghost use Rattle.laws.specs.Cells.{part};
 ghost use Rattle.policy.specs.Fields.{header, pieces};

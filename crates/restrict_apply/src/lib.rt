@@ -1,4 +1,6 @@
 // A thread given a new layer of a ruleset.
+#![tactic(auto)]
+
 ghost use Rattle.std.specs.Prelude.{◌≡◌, ◌+◌, ◌*◌, ◌≤◌, ◌<◌};
 ghost use Rattle.access.specs.Limits.{max_layers, max_pool};
 ghost use Rattle.tables.specs.Tables.{tables, layers_used, pool_used};

@@ -1,4 +1,6 @@
 // The soundness test of the names: by chains, and where these grow long by a sorted list.
+#![tactic(auto)]
+
 ghost use Rattle.std.specs.Prelude.{◌≡◌, replicate};
 ghost use Rattle.access.specs.Limits.{max_entries};
 ghost use Rattle.names.specs.Names.{names_sound};

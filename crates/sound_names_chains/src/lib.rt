@@ -1,4 +1,6 @@
 // Names that are unique in their directories, by chains of the entries whose names fall into one bucket.
+#![tactic(auto)]
+
 ghost use Rattle.std.specs.Prelude.{◌≡◌, true, ◌+◌, ◌*◌, ◌<◌, length, replicate};
 ghost use Rattle.laws.specs.Tests.{all_below};
 ghost use Rattle.access.specs.Limits.{max_entries};

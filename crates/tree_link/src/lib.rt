@@ -1,4 +1,6 @@
 // Link an entry: another entry of its object.
+#![tactic(auto)]
+
 ghost use Rattle.tables.specs.Tables.{tables};
 ghost use Rattle.std.specs.Prelude.{◌≡◌, true};
 ghost use Rattle.laws.specs.Refusals.{first};

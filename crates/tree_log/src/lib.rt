@@ -1,1 +1,2 @@
 // No code: the log of tree changes, its replay, and what an unbroken log gives back.
+#![tactic(auto)]

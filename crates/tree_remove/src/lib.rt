@@ -1,4 +1,6 @@
 // An entry removed.
+#![tactic(auto)]
+
 ghost use Rattle.std.specs.Prelude.{◌≡◌};
 ghost use Rattle.laws.specs.Refusals.{first};
 ghost use Rattle.access.specs.Kinds.{kind_of};

@@ -1,4 +1,6 @@
 // Rename an entry: move it to a directory, and replace an entry there or none.
+#![tactic(auto)]
+
 ghost use Rattle.tables.specs.Tables.{tables};
 ghost use Rattle.std.specs.Prelude.{◌≡◌};
 ghost use Rattle.laws.specs.Refusals.{first};

@@ -37,10 +37,10 @@ loop-e-preserved c =
     let l = c.loop-e in (
       omega arith,
       elim c.if-entries-e-ne0.branch [
-        then-entries-e-ne0+else-not-climb_ends w ↦
+        | then-entries-e-ne0+else-not-climb_ends w ↦
             let r = w.if-not-climb_ends.false in
             (known_same _ w.climb_ends.new.marks (w.climb_ends.ensures.1 r) w.marks-is, all_more _ _ l.invariant.1.1 (climb_live _ _ w.if-entries-e-ne0.true ∙ sym w.climb_ends.ensures.0 ∙ r))
-      | else-entries-e-ne0 w ↦
+        | else-entries-e-ne0 w ↦
             (known_past _ l.marks l.invariant.1.0 w.marks-is, all_more _ _ l.invariant.1.1 (climb_free _ _ (live_no _ _ w.if-entries-e-ne0.false)))
       ],
     )

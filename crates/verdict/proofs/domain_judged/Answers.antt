@@ -20,8 +20,11 @@ returns-then-at-eq0 c =
 pub returns-then-not-is_empty : goal.returns-then-not-is_empty
 returns-then-not-is_empty c =
     let l = c.loop-n in
-    let some = c.if-not-is_empty.true in record { denial = loop_hit _ _ _ l.k l.set l.n l.at l.invariant.0 c.if-at-eq0.false (omega arith) c.layer_holds-held.ensures.denied c.is_empty.ensures some; read = read_all _ _ l.read l.n l.at l.invariant.1 c.if-at-eq0.false (omega arith) c.layer_holds-held.ensures.read c.larger-read.ensures
-          (denied_most _ _ _ _ _ (λ z. eqb-false _ 0 (sym c.is_empty.ensures ∙ some) (c.layer_holds-held.ensures.denied ∙ z))) }
+    let some = c.if-not-is_empty.true in record {
+      denial = loop_hit _ _ _ l.k l.set l.n l.at l.invariant.0 c.if-at-eq0.false (omega arith) c.layer_holds-held.ensures.denied c.is_empty.ensures some;
+      read = read_all _ _ l.read l.n l.at l.invariant.1 c.if-at-eq0.false (omega arith) c.layer_holds-held.ensures.read c.larger-read.ensures
+          (denied_most _ _ _ _ _ (λ z. eqb-false _ 0 (sym c.is_empty.ensures ∙ some) (c.layer_holds-held.ensures.denied ∙ z)));
+    }
 
 pub loop-n-preserved : goal.loop-n-preserved
 loop-n-preserved c =
