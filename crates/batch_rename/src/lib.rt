@@ -1,4 +1,6 @@
 // The answer of a batch to a rename on sound tables: the call's checks up to and with the verdict.
+#![tactic(auto)]
+
 ghost use Rattle.named.specs.Named.{with_names};
 ghost use Rattle.tables.specs.Tables.{tables};
 ghost use Rattle.std.specs.Prelude.{◌≡◌};

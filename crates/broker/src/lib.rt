@@ -1,4 +1,6 @@
 // The entry points of fresh tables and of requests: each but fresh tests the tables first and answers EIO if they are not sound, then does the call. A refusal changes no cell.
+#![tactic(auto)]
+
 pub mod entries;
 pub mod ports;
 pub mod tasks;

@@ -1,5 +1,6 @@
 // Tables of other lengths. A refusal writes nothing: every cell stays 1.
-use crate::write::{answer, line};
+use crate::write::answer;
+use std::io;
 
 // The first `n` cells, or all if there are fewer.
 fn front(t: &mut [u64], n: usize) -> &mut [u64] {
@@ -17,14 +18,16 @@ fn all_one(t: &[u64]) -> bool {
     true
 }
 
-fn unchanged(otherwise: &[u8], t: &[u64]) {
+fn unchanged(rt: &impl Print, otherwise: &str, t: &[u64]) -> io::Result<()> {
     if !all_one(t) {
-        line(otherwise);
+        print!(rt; "{otherwise}")?;
     }
+    Ok(())
 }
 
 // Fresh tables asked for at the level, and at one that is too high: a wrong length goes before it.
 fn answers(
+    rt: &impl Print,
     system: &mut [u64],
     entries: &mut [u64],
     rulesets: &mut [u64],
@@ -32,12 +35,19 @@ fn answers(
     pool: &mut [u64],
     threads: &mut [u64],
     level: u64,
-) {
-    answer(broker::fresh(system, entries, rulesets, layers, pool, threads, level));
-    answer(broker::fresh(system, entries, rulesets, layers, pool, threads, 7));
+) -> io::Result<()> {
+    answer(
+        rt,
+        broker::fresh(system, entries, rulesets, layers, pool, threads, level),
+    )?;
+    answer(
+        rt,
+        broker::fresh(system, entries, rulesets, layers, pool, threads, 7),
+    )
 }
 
 pub fn wrong(
+    rt: &impl Print,
     system_cells: usize,
     entries_cells: usize,
     rulesets_cells: usize,
@@ -45,7 +55,7 @@ pub fn wrong(
     pool_cells: usize,
     threads_cells: usize,
     level: u64,
-) {
+) -> io::Result<()> {
     let mut system = [1u64; 5];
     let mut entries = [1u64; 3073];
     let mut rulesets = [1u64; 3137];
@@ -53,6 +63,7 @@ pub fn wrong(
     let mut pool = [1u64; 3073];
     let mut threads = [1u64; 33];
     answers(
+        rt,
         front(&mut system, system_cells),
         front(&mut entries, entries_cells),
         front(&mut rulesets, rulesets_cells),
@@ -60,11 +71,11 @@ pub fn wrong(
         front(&mut pool, pool_cells),
         front(&mut threads, threads_cells),
         level,
-    );
-    unchanged(b" system changed", &system);
-    unchanged(b" entries changed", &entries);
-    unchanged(b" rulesets changed", &rulesets);
-    unchanged(b" layers changed", &layers);
-    unchanged(b" pool changed", &pool);
-    unchanged(b" threads changed", &threads);
+    )?;
+    unchanged(rt, " system changed", &system)?;
+    unchanged(rt, " entries changed", &entries)?;
+    unchanged(rt, " rulesets changed", &rulesets)?;
+    unchanged(rt, " layers changed", &layers)?;
+    unchanged(rt, " pool changed", &pool)?;
+    unchanged(rt, " threads changed", &threads)
 }

@@ -1,39 +1,26 @@
 // What is written: answers and cells.
 use access::errno::Reply;
-use libc::STDOUT_FILENO;
-
-pub fn line(text: &[u8]) {
-    io::write_all(STDOUT_FILENO, text);
-}
+use std::io;
 
 // The number of a success, or E and the number of the error.
-pub fn answer(reply: Reply) {
+pub fn answer(rt: &impl Print, reply: Reply) -> io::Result<()> {
     match reply {
-        Reply::Done(n) => {
-            line(b" ");
-            io::print_decimal(STDOUT_FILENO, n);
-        }
-        Reply::Refused(e) => {
-            line(b" E");
-            io::print_decimal(STDOUT_FILENO, e.0);
-        }
+        Reply::Done(n) => print!(rt; " {n}"),
+        Reply::Refused(e) => print!(rt; " E{}", e.0),
         // No verdict is asked for here.
-        Reply::Denied(_, _, _) => line(b" denied"),
+        Reply::Denied(_, _, _) => print!(rt; " denied"),
     }
 }
 
 // The cells of a table that are not zero, as `name[cell]=value`.
-pub fn cells(name: &[u8], t: &[u64]) {
+pub fn cells(rt: &impl Print, name: &str, t: &[u64]) -> io::Result<()> {
     let mut i = 0;
     while i < t.len() {
         let v = t[i];
         if v != 0 {
-            line(name);
-            line(b"[");
-            io::print_decimal(STDOUT_FILENO, i as u64);
-            line(b"]=");
-            io::print_decimal(STDOUT_FILENO, v);
+            print!(rt; "{name}[{i}]={v}")?;
         }
         i += 1;
     }
+    Ok(())
 }

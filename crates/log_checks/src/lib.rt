@@ -1,4 +1,6 @@
 // The refusals of a change of the tree, thread, verdict and log apart.
+#![tactic(auto)]
+
 ghost use Rattle.std.specs.Prelude.{◌≡◌, []};
 ghost use Rattle.laws.specs.Refusals.{first};
 ghost use Rattle.names.specs.Names.{bearer};

@@ -1,4 +1,6 @@
 // Entries linked on tables with names.
+#![tactic(auto)]
+
 ghost use Rattle.tables.specs.Tables.{tables};
 ghost use Rattle.std.specs.Prelude.{◌≡◌};
 ghost use Rattle.fs.specs.Blame.{move_reply, naming_move};

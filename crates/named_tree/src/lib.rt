@@ -1,4 +1,6 @@
 // Entries made and removed on tables with names.
+#![tactic(auto)]
+
 ghost use Rattle.std.specs.Prelude.{◌≡◌};
 ghost use Rattle.access.specs.Kinds.{kind_of};
 ghost use Rattle.tables.specs.Tables.{tables, kind, parent};

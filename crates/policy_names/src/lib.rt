@@ -1,4 +1,6 @@
 // Names of rulesets: where a file has one, and whether an earlier ruleset has it. Names fall into buckets: one whose bucket is empty is new.
+#![tactic(auto)]
+
 ghost use Rattle.std.specs.Prelude.{◌≡◌, ◌+◌, ◌<◌, eqb, length};
 ghost use Rattle.laws.specs.Cells.{part};
 ghost use Rattle.policy.specs.Fields.{ruleset_tag, header};

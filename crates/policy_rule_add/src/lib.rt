@@ -1,4 +1,6 @@
 // One rule of a policy file, added to a ruleset of sound tables: no call tests soundness again.
+#![tactic(auto)]
+
 ghost use Rattle.std.specs.Prelude.{◌≡◌, true, min, ◌<◌, get_or};
 ghost use Rattle.tables.specs.Tables.{tables};
 ghost use Rattle.ruleset.specs.Attribute.{number};

@@ -1,4 +1,6 @@
 // How long the file of a ruleset is.
+#![tactic(auto)]
+
 ghost use Rattle.std.specs.Prelude.{◌≡◌, ◌+◌, ◌*◌, ◌≤◌, length};
 ghost use Rattle.access.specs.Limits.{max_rules};
 ghost use Rattle.policy.specs.Fields.{header};

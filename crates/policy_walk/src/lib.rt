@@ -1,4 +1,6 @@
 // The counted rules of a ruleset's part, one after another: the walk enters a group that counts, and goes round another.
+#![tactic(auto)]
+
 ghost use Rattle.std.specs.Prelude.{◌≡◌, ◌+◌, ◌≤◌, ◌<◌, length};
 ghost use Rattle.policy.specs.Fields.{header};
 ghost use Rattle.policy_walk.specs.Steps.{is_rule_tag, past_group, StepIs};
