@@ -1,4 +1,6 @@
 // The answers of a batch, one request after the other.
+#![tactic(auto)]
+
 ghost use Rattle.std.specs.Prelude.{◌≡◌, true, false};
 ghost use Rattle.laws.specs.Refusals.{first};
 ghost use Rattle.sound_names_chains.specs.Chains.{IndexedIf};

@@ -1,4 +1,6 @@
 // The reply of a batch to a request on sound tables, by its sort.
+#![tactic(auto)]
+
 ghost use Rattle.std.specs.Prelude.{◌≡◌, true};
 ghost use Rattle.fs.specs.NeedsTable.{NeedsTable};
 ghost use Rattle.sound_names_chains.specs.Chains.{IndexedIf};

@@ -1,4 +1,6 @@
 // The entry points of layers and threads: each tests the tables first and answers EIO if they are not sound, then does the call. A refusal changes no cell.
+#![tactic(auto)]
+
 ghost use Rattle.tables.specs.Tables.{tables};
 ghost use Rattle.std.specs.Prelude.{◌≡◌};
 ghost use Rattle.tables.specs.Outcome.{outcome};

@@ -1,4 +1,6 @@
 // Fields of changes, written behind the used part of a log.
+#![tactic(auto)]
+
 ghost use Rattle.std.specs.Prelude.{◌≡◌, ◌++◌, ◌+◌, ◌≤◌, leb, length};
 ghost use Rattle.policy.specs.Fields.{bytes_of, header};
 ghost use Rattle.policy_write.specs.Written.{field_bytes};

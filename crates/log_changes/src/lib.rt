@@ -1,5 +1,7 @@
 // A change of the tree, tried on its entries, their names and the next object number: it is made if its call, thread, verdict and log apart, would neither
 // refuse it nor leave the tree. The answer is whether it was made; one that is not leaves every cell.
+#![tactic(auto)]
+
 ghost use Rattle.std.specs.Prelude.{◌≡◌, ℕ};
 ghost use Rattle.tree_log.specs.Changes.{create, remove, link, rename, exchange, read_field};
 ghost use Rattle.log_checks.specs.Checks.{tree_with};

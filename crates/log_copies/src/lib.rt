@@ -1,4 +1,6 @@
 // A log replayed on a tree, whole or not at all.
+#![tactic(auto)]
+
 ghost use Rattle.std.specs.Prelude.{◌≡◌};
 ghost use Rattle.policy.specs.Fields.{pieces};
 ghost use Rattle.tree_log.specs.Replay.{replayed};

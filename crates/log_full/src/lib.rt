@@ -1,4 +1,6 @@
 // What the tree calls answer whose field has no room in the log: their own refusals, in their order, or ENOSPC. They change no cell.
+#![tactic(auto)]
+
 ghost use Rattle.tables.specs.Tables.{tables};
 ghost use Rattle.std.specs.Prelude.{◌≡◌};
 ghost use Rattle.named.specs.Named.{with_names, named_outcome};

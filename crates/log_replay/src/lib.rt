@@ -1,4 +1,6 @@
 // The fields of a log, tried one after another on a tree.
+#![tactic(auto)]
+
 ghost use Rattle.std.specs.Prelude.{◌≡◌};
 ghost use Rattle.policy.specs.Fields.{pieces};
 ghost use Rattle.tree_log.specs.Replay.{replayed};

@@ -1,1 +1,2 @@
 // No code: demand 3 with replays of logs among the calls.
+#![tactic(auto)]

@@ -1,4 +1,6 @@
 // The attribute with which a ruleset of a policy file is created.
+#![tactic(auto)]
+
 ghost use Rattle.std.specs.Prelude.{◌≡◌, length};
 ghost use Rattle.access.specs.Rights.{without};
 ghost use Rattle.policy.specs.Fields.{pieces};

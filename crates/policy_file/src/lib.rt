@@ -1,4 +1,6 @@
 // The file of a ruleset, written over the start of an output.
+#![tactic(auto)]
+
 ghost use Rattle.std.specs.Prelude.{◌≡◌, ◌≤◌, length};
 ghost use Rattle.policy_write.specs.File.{policy_file, written_over, write_room};
 ghost use Rattle.policy_file.specs.Writing.{write_reply, write_left, Chosen, Laid};

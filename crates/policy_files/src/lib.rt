@@ -1,4 +1,6 @@
 // Whole files, field by field.
+#![tactic(auto)]
+
 ghost use Rattle.std.specs.Prelude.{◌≡◌, ◌+◌, ◌<◌, length};
 ghost use Rattle.laws.specs.Cells.{part};
 ghost use Rattle.policy.specs.Fields.{ruleset_tag, header, field};

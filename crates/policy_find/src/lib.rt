@@ -1,4 +1,6 @@
 // What a name means in two files, stock and site: a ruleset's part of one of them.
+#![tactic(auto)]
+
 ghost use Rattle.std.specs.Prelude.{◌≡◌, ◌+◌, ◌≤◌, length};
 ghost use Rattle.policy.specs.Fields.{header};
 ghost use Rattle.policy.specs.Find.{next_ruleset, span_of, has_or, found, part_of};

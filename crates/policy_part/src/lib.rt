@@ -1,4 +1,6 @@
 // A ruleset's part of a policy file, applied to sound tables.
+#![tactic(auto)]
+
 ghost use Rattle.std.specs.Prelude.{◌≡◌, true};
 ghost use Rattle.tables.specs.Tables.{tables, level};
 ghost use Rattle.theorems.specs.Calls.{create_ruleset};

@@ -1,4 +1,6 @@
 // The entries picked for path rules, and what refuses a ruleset that is to be written.
+#![tactic(auto)]
+
 ghost use Rattle.std.specs.Prelude.{◌≡◌, ◌≤◌, ◌<◌, leb, ltb, length};
 ghost use Rattle.laws.specs.Refusals.{first};
 ghost use Rattle.laws.specs.Tests.{any_below};

@@ -1,4 +1,6 @@
 // What is said of a name in two policy files: a number, and a report of the file, a place in it and a length.
+#![tactic(auto)]
+
 ghost use Rattle.std.specs.Prelude.{◌≡◌, ◌-◌};
 ghost use Rattle.named.specs.Policy.{found_number, place, file_number, found_place, placed};
 

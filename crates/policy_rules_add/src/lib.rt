@@ -1,4 +1,6 @@
 // The rules of a ruleset's part of a policy file, added one after another to a ruleset of sound tables. The first refusal closes the ruleset.
+#![tactic(auto)]
+
 ghost use Rattle.std.specs.Prelude.{◌≡◌, true};
 ghost use Rattle.tables.specs.Tables.{tables, level};
 ghost use Rattle.policy_walk.specs.Flat.{flatten};

@@ -1,4 +1,6 @@
 // An answer to a request of the queue.
+#![tactic(auto)]
+
 ghost use Rattle.named.specs.Named.{with_names};
 ghost use Rattle.tables.specs.Tables.{tables};
 ghost use Rattle.std.specs.Prelude.{◌≡◌};

@@ -1,4 +1,1 @@
-pub mod Locals
-pub mod Named
-pub mod Tables
-pub mod Walks
+pub mod Slots

@@ -1,5 +1,7 @@
 // Posts and turns over a queue of records: the slots are a slice of structs, and the cursor lies in a struct, each behind a `&mut`. The functions are thin:
-// they take the structs apart, call covered functions on numbers, and write back. Their proofs are walks by hand.
+// they take the structs apart, call covered functions on numbers, and write back.
+#![tactic(auto)]
+
 ghost use Rattle.named.specs.Named.{with_names};
 ghost use Rattle.tables.specs.Tables.{tables};
 ghost use Rattle.std.specs.Prelude.{◌≡◌};
@@ -169,7 +171,7 @@ pub struct Turned {
     pub queue: Queue,
 }
 
-// A turn of a queue that is passed and returned by value: a caller whose tables have one lifetime needs no walk.
+// A turn of a queue that is passed and returned by value.
 pub fn turn_once<'t>(
     system: &'t [u64],
     entries: &'t [u64],

@@ -1,4 +1,6 @@
 // A turn of the queue: the next waiting slot is answered from the tables.
+#![tactic(auto)]
+
 ghost use Rattle.tables.specs.Tables.{tables};
 ghost use Rattle.std.specs.Prelude.{◌≡◌};
 ghost use Rattle.queue.specs.Queue.{queue, turned, served_reply};

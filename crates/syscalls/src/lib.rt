@@ -1,4 +1,6 @@
 // The entry points of fresh tables, requests and lookups, on tables with names: each but fresh answers EIO if the tables are not sound, then does the call.
+#![tactic(auto)]
+
 ghost use Rattle.tables.specs.Tables.{tables};
 ghost use Rattle.std.specs.Prelude.{◌≡◌};
 ghost use Rattle.fs_access.specs.Access.{access_call, access_count};

@@ -1,4 +1,6 @@
 // The entry point of batches, on tables with names: soundness is tested once for all requests.
+#![tactic(auto)]
+
 ghost use Rattle.tables.specs.Tables.{tables};
 ghost use Rattle.std.specs.Prelude.{◌≡◌, replicate};
 ghost use Rattle.laws.specs.Refusals.{first};

@@ -1,5 +1,7 @@
 // The entry points of the calls that move entries, with a log: the change of a call goes into the log as a field. A change whose field has no room is
 // ENOSPC, after the call's own refusals; a call that changes nothing needs no room. A refusal changes no cell, and no byte of the log.
+#![tactic(auto)]
+
 ghost use Rattle.tables.specs.Tables.{tables};
 ghost use Rattle.std.specs.Prelude.{◌≡◌};
 ghost use Rattle.tree.specs.Entries.{replacing, same_object};

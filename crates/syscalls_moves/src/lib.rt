@@ -1,5 +1,7 @@
 // The entry points of the calls that link and move entries, on tables with names: each tests the tables first and answers EIO if they are not sound, then does
 // the call. A refusal changes no cell.
+#![tactic(auto)]
+
 ghost use Rattle.tables.specs.Tables.{tables};
 ghost use Rattle.std.specs.Prelude.{◌≡◌};
 ghost use Rattle.named.specs.Named.{with_names, named_outcome};

@@ -1,4 +1,6 @@
 // The entry points of rulesets and rules, on tables with names: each answers EIO if the tables are not sound, then does the call. A refusal changes no cell.
+#![tactic(auto)]
+
 ghost use Rattle.tables.specs.Tables.{tables};
 ghost use Rattle.std.specs.Prelude.{◌≡◌};
 ghost use Rattle.ruleset.specs.Create.{created, closed};

@@ -1,6 +1,6 @@
 // Plays a case from fresh tables, stage by stage.
 use crate::stages::{Asked, enter, open, requests, tree};
-use libc::STDOUT_FILENO;
+use std::io;
 use tables::rows::{
     ENTRIES_CELLS, LAYERS_CELLS, POOL_CELLS, RULESETS_CELLS, SYSTEM_CELLS, THREADS_CELLS,
 };
@@ -24,7 +24,7 @@ pub struct Setup {
     pub shown: u64,
 }
 
-fn play(attribute: &[u8], other: &[u8], s: Setup, asked: Asked) {
+fn play(rt: &impl Print, attribute: &[u8], other: &[u8], s: Setup, asked: Asked) -> io::Result<()> {
     let mut system = [0u64; SYSTEM_CELLS];
     let mut entries = [0u64; ENTRIES_CELLS];
     let mut rulesets = [0u64; RULESETS_CELLS];
@@ -41,6 +41,7 @@ fn play(attribute: &[u8], other: &[u8], s: Setup, asked: Asked) {
         s.level,
     );
     tree(
+        rt,
         &mut system,
         &mut entries,
         &rulesets,
@@ -48,8 +49,9 @@ fn play(attribute: &[u8], other: &[u8], s: Setup, asked: Asked) {
         &pool,
         &threads,
         s.shown == TREE,
-    );
+    )?;
     open(
+        rt,
         &system,
         &entries,
         &mut rulesets,
@@ -62,8 +64,9 @@ fn play(attribute: &[u8], other: &[u8], s: Setup, asked: Asked) {
         s.third,
         other,
         s.shown == RULESET,
-    );
+    )?;
     enter(
+        rt,
         &mut system,
         &entries,
         &rulesets,
@@ -72,8 +75,9 @@ fn play(attribute: &[u8], other: &[u8], s: Setup, asked: Asked) {
         &mut threads,
         s.layers,
         s.shown == LAYERS,
-    );
+    )?;
     requests(
+        rt,
         &system,
         &mut entries,
         &rulesets,
@@ -81,13 +85,19 @@ fn play(attribute: &[u8], other: &[u8], s: Setup, asked: Asked) {
         &pool,
         &threads,
         asked,
-    );
+    )
 }
 
 // Writes a line with the case's name and its answers.
-pub fn case(name: &[u8], attribute: &[u8], other: &[u8], s: Setup, asked: Asked) {
-    io::write_all(STDOUT_FILENO, name);
-    io::write_all(STDOUT_FILENO, b":");
-    play(attribute, other, s, asked);
-    io::write_all(STDOUT_FILENO, b"\n");
+pub fn case(
+    rt: &impl Print,
+    name: &str,
+    attribute: &[u8],
+    other: &[u8],
+    s: Setup,
+    asked: Asked,
+) -> io::Result<()> {
+    print!(rt; "{name}:")?;
+    play(rt, attribute, other, s, asked)?;
+    println!(rt)
 }

@@ -8,7 +8,7 @@ use broker_moves::{link, rename};
 use broker_rulesets::{add_path_rule, create_ruleset};
 use broker_tree::create::create;
 use fs_access::Accessed;
-use libc::STDOUT_FILENO;
+use std::io;
 use tables::rows::{
     ENTRIES_CELLS, LAYERS_CELLS, POOL_CELLS, RULESETS_CELLS, SYSTEM_CELLS, THREADS_CELLS,
 };
@@ -50,41 +50,29 @@ pub struct Asked {
 }
 
 // The number of a success, or E and the number of the error, with the layer and the rights that it names.
-fn show(shown: bool, answer: Reply) {
+fn show(rt: &impl Print, shown: bool, answer: Reply) -> io::Result<()> {
     if !shown {
-        return;
+        return Ok(());
     }
     match answer {
-        Reply::Done(n) => {
-            io::write_all(STDOUT_FILENO, b" ");
-            io::print_decimal(STDOUT_FILENO, n);
-        }
-        Reply::Refused(e) => {
-            io::write_all(STDOUT_FILENO, b" E");
-            io::print_decimal(STDOUT_FILENO, e.0);
-        }
+        Reply::Done(n) => print!(rt; " {n}"),
+        Reply::Refused(e) => print!(rt; " E{}", e.0),
         Reply::Denied(e, layer, rights) => {
-            io::write_all(STDOUT_FILENO, b" E");
-            io::print_decimal(STDOUT_FILENO, e.0);
-            io::write_all(STDOUT_FILENO, b" (layer ");
-            io::print_decimal(STDOUT_FILENO, layer);
-            io::write_all(STDOUT_FILENO, b", rights ");
-            io::print_decimal(STDOUT_FILENO, rights.0);
-            io::write_all(STDOUT_FILENO, b")");
+            print!(rt; " E{} (layer {layer}, rights {})", e.0, rights.0)
         }
     }
 }
 
 // The same of an access, with how many entries' rules were read.
-fn show_access(answer: Accessed) {
+fn show_access(rt: &impl Print, answer: Accessed) -> io::Result<()> {
     let reply = answer.reply;
-    show(true, reply);
-    io::write_all(STDOUT_FILENO, b" read ");
-    io::print_decimal(STDOUT_FILENO, answer.read);
+    show(rt, true, reply)?;
+    print!(rt; " read {}", answer.read)
 }
 
 // Two directories with a file each.
 pub fn tree(
+    rt: &impl Print,
     s: &mut System,
     e: &mut Entries,
     r: &[u64],
@@ -92,11 +80,11 @@ pub fn tree(
     p: &[u64],
     t: &[u64],
     shown: bool,
-) {
-    show(shown, create(s, e, r, l, p, t, 0, 0, DIRECTORY));
-    show(shown, create(s, e, r, l, p, t, 0, 0, DIRECTORY));
-    show(shown, create(s, e, r, l, p, t, 0, 1, REGULAR));
-    show(shown, create(s, e, r, l, p, t, 0, 2, REGULAR));
+) -> io::Result<()> {
+    show(rt, shown, create(s, e, r, l, p, t, 0, 0, DIRECTORY))?;
+    show(rt, shown, create(s, e, r, l, p, t, 0, 0, DIRECTORY))?;
+    show(rt, shown, create(s, e, r, l, p, t, 0, 1, REGULAR))?;
+    show(rt, shown, create(s, e, r, l, p, t, 0, 2, REGULAR))
 }
 
 // A rule of ruleset 0 for an entry, if it has rights.
@@ -117,6 +105,7 @@ fn rule(
 
 // Ruleset 0 with rules for the entries 1, 2 and 3, and ruleset 1 without rules, if it has an attribute.
 pub fn open(
+    rt: &impl Print,
     s: &System,
     e: &Entries,
     r: &mut Rulesets,
@@ -129,18 +118,20 @@ pub fn open(
     third: u64,
     other: &[u8],
     shown: bool,
-) {
-    show(shown, create_ruleset(s, e, r, l, p, t, attribute, 0));
+) -> io::Result<()> {
+    show(rt, shown, create_ruleset(s, e, r, l, p, t, attribute, 0))?;
     rule(s, e, r, l, p, t, 1, first);
     rule(s, e, r, l, p, t, 2, second);
     rule(s, e, r, l, p, t, 3, third);
     if other.len() != 0 {
         create_ruleset(s, e, r, l, p, t, other, 0);
     }
+    Ok(())
 }
 
 // Makes `n` layers, the first of ruleset 0 and the others of ruleset 1.
 pub fn enter(
+    rt: &impl Print,
     s: &mut System,
     e: &Entries,
     r: &Rulesets,
@@ -149,17 +140,19 @@ pub fn enter(
     t: &mut Threads,
     n: u64,
     shown: bool,
-) {
+) -> io::Result<()> {
     set_no_new_privs(s, e, r, l, p, t, 0);
     let mut i: u64 = 0;
     while i < n {
         let ruleset = if i == 0 { 0 } else { 1 };
-        show(shown, restrict(s, e, r, l, p, t, 0, ruleset, 0));
+        show(rt, shown, restrict(s, e, r, l, p, t, 0, ruleset, 0))?;
         i += 1;
     }
+    Ok(())
 }
 
 fn ask(
+    rt: &impl Print,
     s: &[u64],
     e: &mut [u64],
     r: &[u64],
@@ -169,16 +162,17 @@ fn ask(
     request: u64,
     x: u64,
     y: u64,
-) {
+) -> io::Result<()> {
     match request {
-        ACCESS => show_access(access(s, e, r, l, p, t, 0, x, Rights(y))),
-        RENAME => show(true, rename(s, e, r, l, p, t, 0, x, y, Replaced::None)),
-        LINK => show(true, link(s, e, r, l, p, t, 0, x, y)),
-        _ => (),
+        ACCESS => show_access(rt, access(s, e, r, l, p, t, 0, x, Rights(y))),
+        RENAME => show(rt, true, rename(s, e, r, l, p, t, 0, x, y, Replaced::None)),
+        LINK => show(rt, true, link(s, e, r, l, p, t, 0, x, y)),
+        _ => Ok(()),
     }
 }
 
 pub fn requests(
+    rt: &impl Print,
     system: &System,
     e: &mut Entries,
     rulesets: &Rulesets,
@@ -186,17 +180,18 @@ pub fn requests(
     pool: &Pool,
     threads: &Threads,
     asked: Asked,
-) {
+) -> io::Result<()> {
     let s: &[u64] = system;
     let r: &[u64] = rulesets;
     let l: &[u64] = layers;
     let p: &[u64] = pool;
     let t: &[u64] = threads;
-    ask(s, e, r, l, p, t, asked.request, asked.x, asked.y);
+    ask(rt, s, e, r, l, p, t, asked.request, asked.x, asked.y)?;
     if asked.then != 0 {
-        ask(s, e, r, l, p, t, ACCESS, asked.then, WRITE_FILE);
+        ask(rt, s, e, r, l, p, t, ACCESS, asked.then, WRITE_FILE)?;
     }
     if asked.last != 0 {
-        ask(s, e, r, l, p, t, ACCESS, asked.last, WRITE_FILE);
+        ask(rt, s, e, r, l, p, t, ACCESS, asked.last, WRITE_FILE)?;
     }
+    Ok(())
 }

@@ -1,0 +1,15 @@
+use mathlib.Core.Bool.{not}
+use mathlib.Core.Path.{ap}
+use Rattle.named.specs.Tree.{remove_named}
+use Rattle.log_calls.proofs.Full.{full_unsound, full_checked}
+use Rattle.log_full.proofs.remove_full.Goals as goal
+
+pub returns-then-not-named_sound : goal.returns-then-not-named_sound
+unfolding remove_named
+returns-then-not-named_sound c =
+    full_unsound _ c.named_sound.ensures _ _ _ _ _ _ (ap not c.if-not-named_sound.true)
+
+pub returns : goal.returns
+unfolding remove_named
+returns c =
+    full_checked _ c.named_sound.ensures _ _ _ _ _ _ (ap not c.if-not-named_sound.false) c.remove_checks.ensures c.without_room.ensures

@@ -1,0 +1,66 @@
+use mathlib.Core.Path.{◌≡◌, refl, sym, ap, ◌∙◌}
+use native.Mathlib.Omega.{arith}
+use borrow.Author.Rules.{rules}
+use Prim.Native.Nat.{ℕ, ◌+◌, ◌-◌, ◌≤◌}
+use lib.ListN.{length, get_or}
+use lib.Seq.{sets}
+use Rattle.policy_size.specs.Fields.{path_field, fields_in}
+use Rattle.policy_fill.proofs.Parts.{turn-length, turn-room, turn-bytes, turn_end}
+use Rattle.policy_fill.proofs.put_paths.Goals as goal
+
+pub loop-j-init : goal.loop-j-init
+unfolding fields_in
+loop-j-init c =
+    let a = c.args in let z : a.from ≡ a.from + 0 = omega arith in (omega arith, refl, z)
+
+pub bounds-order-j : goal.bounds-order-j
+unfolding fields_in
+bounds-order-j c =
+    let t = c.loop-j-test.true in let r = c.requires.0.room in omega arith
+
+pub overflow_cast-i : goal.overflow_cast-i
+unfolding fields_in
+overflow_cast-i c =
+    omega (arith, c.shared_slice_known-in-loop-j-1.given c.loop-j.j)
+
+pub put_path_rule-at-requires : goal.put_path_rule-at-requires
+unfolding fields_in
+put_path_rule-at-requires c =
+    let a = c.args in
+    let l = c.loop-j in
+    let t = c.loop-j-test.true in
+    (c.requires.0.known l.j t, c.requires.0.short l.j t, turn-room (path_field a.entries.now a.names.now a.rules.now a.picks.now) a.order.now a.out.now a.from l.j l.invariant.1 l.invariant.2 a.k t c.requires.1)
+
+pub overflow_add-j : goal.overflow_add-j
+unfolding fields_in
+overflow_add-j c =
+    let t = c.loop-j-test.true in omega arith
+
+pub loop-j-smaller : goal.loop-j-smaller
+unfolding fields_in
+loop-j-smaller c =
+    let t = c.loop-j-test.true in omega arith
+
+pub loop-j-preserved : goal.loop-j-preserved
+unfolding fields_in
+loop-j-preserved c =
+    let a = c.args in
+    let l = c.loop-j in
+    let t = c.loop-j-test.true in
+    let e = c.put_path_rule-at.ensures in
+    (omega arith, turn-bytes (path_field a.entries.now a.names.now a.rules.now a.picks.now) a.order.now a.out.now a.from l.j l.invariant.1 l.invariant.2 e.0, turn_end (path_field a.entries.now a.names.now a.rules.now a.picks.now) a.order.now a.out.now a.from l.j l.invariant.1 l.invariant.2 e.1)
+
+pub shape_of-out : goal.shape_of-out
+unfolding fields_in
+shape_of-out c =
+    let a = c.args in let l = c.loop-j in turn-length (path_field a.entries.now a.names.now a.rules.now a.picks.now) a.order.now a.out.now a.from l.j l.invariant.1 l.invariant.2
+
+pub returns : goal.returns
+unfolding fields_in
+returns c =
+    let a = c.args in
+    let l = c.loop-j in
+    let t = c.loop-j-test.false in
+    let h = l.invariant.0 in
+    let z : l.j ≡ a.k = omega arith in
+    (l.invariant.1 ∙ ap (λ (j : ℕ). sets a.out.now a.from (fields_in (path_field a.entries.now a.names.now a.rules.now a.picks.now) a.order.now j)) z, l.invariant.2 ∙ ap (λ (j : ℕ). a.from + length (fields_in (path_field a.entries.now a.names.now a.rules.now a.picks.now) a.order.now j)) z)
