@@ -1,6 +1,8 @@
 // What C and Rust call: every call of the broker, with its arguments as numbers and its reply as one number. A call with a verdict also writes a
 // report: the layer that refused (its number + 1, or 0 for none) and what it denies, for access also how many entries' rules were read; a
 // shorter one gets the cells that it has.
+#![tactic(auto)]
+
 ghost use Rattle.std.specs.Prelude.{◌≡◌, cond, ◌*◌, min, eqb, length, set};
 ghost use Rattle.tables.specs.Tables.{tables, rule_width};
 ghost use Rattle.tables.specs.Layers.{layer_first};

@@ -1,4 +1,6 @@
 // What the benchmark in rust/bench measures, exported for it: the rule scan, the climb and the verdicts.
+#![tactic(auto)]
+
 ghost use Rattle.std.specs.Prelude.{◌≡◌, [], ◌∷◌};
 ghost use Rattle.access.specs.Rights.{without};
 ghost use Rattle.laws.specs.Refusals.{◌⇒◌, first};

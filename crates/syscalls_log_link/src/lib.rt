@@ -1,5 +1,7 @@
 // The entry point of the call that links entries, with a log: its change goes into the log as a field. A change whose field has no room is ENOSPC, after the call's
 // own refusals. A refusal changes no cell, and no byte of the log.
+#![tactic(auto)]
+
 ghost use Rattle.tables.specs.Tables.{tables};
 ghost use Rattle.std.specs.Prelude.{◌≡◌};
 ghost use Rattle.named.specs.Named.{with_names, named_outcome};

@@ -1,4 +1,6 @@
 // The entry points of policy files: what a name means in two of them, and its ruleset applied to tables with names.
+#![tactic(auto)]
+
 ghost use Rattle.std.specs.Prelude.{◌≡◌, true};
 ghost use Rattle.access.specs.Reply.{reply_to};
 ghost use Rattle.tables.specs.Tables.{tables};

@@ -1,4 +1,6 @@
 // The entry point of replay: the changes of a log made on tables with names.
+#![tactic(auto)]
+
 ghost use Rattle.tables.specs.Tables.{tables};
 ghost use Rattle.std.specs.Prelude.{◌≡◌};
 ghost use Rattle.named.specs.Named.{with_names, named_outcome};

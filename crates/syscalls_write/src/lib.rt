@@ -1,4 +1,6 @@
 // The entry point that writes the policy file of a ruleset.
+#![tactic(auto)]
+
 ghost use Rattle.tables.specs.Tables.{tables};
 ghost use Rattle.std.specs.Prelude.{◌≡◌, ◌++◌, length};
 ghost use Rattle.laws.specs.Refusals.{first};

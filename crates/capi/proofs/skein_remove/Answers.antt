@@ -1,0 +1,8 @@
+use borrow.Author.Rules.{rules}
+use Rattle.capi.proofs.Answers.{tells}
+use Rattle.capi.proofs.skein_remove.Goals as goal
+
+pub returns : goal.returns
+returns c =
+    let a = c.remove-reply.ensures in
+    record { answer = tells _ _ _ a.reply c.number.ensures c.report_denial.ensures; log = a.log }
