@@ -1,4 +1,4 @@
-// Links the archive that `rt staticlib measured` writes.
+// Links the archive that `.ci/archive measured` writes.
 use std::path::Path;
 
 fn main() {
@@ -6,7 +6,7 @@ fn main() {
     let archive = dir.join("libmeasured.a");
     println!("cargo:rerun-if-changed={}", archive.display());
     if !archive.exists() {
-        panic!("the archive is missing: run `rt staticlib measured` at the top of the repository first");
+        panic!("the archive is missing: run `.ci/archive measured` at the repository's top first");
     }
     println!("cargo:rustc-link-search=native={}", dir.display());
     println!("cargo:rustc-link-lib=static=measured");

@@ -1,4 +1,4 @@
-//! Links the archive that `rt staticlib capi` writes.
+//! Links the archive that `.ci/archive capi` writes.
 use std::path::Path;
 
 fn main() {
@@ -7,7 +7,7 @@ fn main() {
     println!("cargo:rerun-if-changed={}", archive.display());
     if !archive.exists() {
         eprintln!(
-            "{} is missing: run `rt staticlib capi` at the top of the repository first",
+            "{} is missing: run `.ci/archive capi` at the top of the repository first",
             archive.display()
         );
         std::process::exit(1);

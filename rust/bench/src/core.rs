@@ -1,4 +1,4 @@
-//! The parts of the proved core that `rt staticlib measured` exports, with no soundness test in front; and that test.
+//! The parts of the proved core that `.ci/archive measured` exports, with no soundness test in front; and that test.
 
 use crate::landlock::ESRCH;
 use crate::tables::Tables;
