@@ -7,7 +7,7 @@ ghost use Rattle.laws.specs.Cells.{cell, put_cell, zeros, copied};
 pub fn read(t: &[u64], i: usize) -> u64
     ensures { result ≡ get_or t.now i 0 }
 {
-    if i < t.len() { t[i] } else { 0 }
+    t.get(i).copied().unwrap_or(0)
 }
 
 pub fn write(t: &mut [u64], i: usize, v: u64)
@@ -22,13 +22,7 @@ pub fn write(t: &mut [u64], i: usize, v: u64)
 pub fn row_start(n: usize, width: usize, i: usize) -> usize
     ensures { result ≡ min (width * i) n }
 {
-    if width == 0 {
-        return 0;
-    }
-    if n / width < i {
-        return n;
-    }
-    width * i
+    width.saturating_mul(i).min(n)
 }
 
 // Cell `k` of row `i` of a table with rows of `width` cells.
@@ -52,26 +46,14 @@ pub fn row_write(t: &mut [u64], width: usize, i: usize, k: usize, v: u64)
 pub fn all_zero(t: &[u64]) -> bool
     ensures { result ≡ zeros t.now }
 {
-    let mut i = 0;
-    while i < t.len() {
-        if t[i] == 0 {
-            i += 1;
-        } else {
-            return false;
-        }
-    }
-    true
+    t.iter().all(|v| *v == 0)
 }
 
 // Makes every cell 0.
 pub fn clear(t: &mut [u64])
     ensures { t.new ≡ replicate (length t.old) 0 }
 {
-    let mut i = 0;
-    while i < t.len() {
-        t[i] = 0;
-        i += 1;
-    }
+    t.fill(0);
 }
 
 // Writes the cells of `src` over those from `from` on. What would stand past the end is left out.
@@ -81,9 +63,7 @@ pub fn copy(t: &mut [u64], from: usize, src: &[u64])
     if from >= t.len() {
         return;
     }
-    let mut i = 0;
-    while i < src.len() {
-        write(t, from + i, src[i]);
-        i += 1;
+    for (i, v) in src.iter().enumerate() {
+        write(t, from + i, *v);
     }
 }

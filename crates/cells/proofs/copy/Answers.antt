@@ -1,7 +1,5 @@
 use mathlib.Core.Path.{◌≡◌, refl, ap, ◌∙◌}
-use Prim.Native.Nat.{◌≤◌, ◌<◌, ◌-◌}
 use native.Mathlib.Omega.{arith}
-use borrow.Author.Rules.{rules}
 use lib.ListN.{length}
 use Rattle.laws.specs.Cells.{copied}
 use Rattle.laws.proofs.Copies.{copied_none, copied_more, copied-past}
@@ -13,21 +11,17 @@ returns-then-from-t c =
 
 pub loop-i-init : goal.loop-i-init
 loop-i-init c =
-    (omega arith, copied_none _ _ _, refl, omega arith)
+    (copied_none _ _ _, refl, omega arith)
 
 pub loop-i-preserved : goal.loop-i-preserved
 loop-i-preserved c =
     let l = c.loop-i in
     let a = c.args in
-    (omega arith, copied_more a.t.now a.from a.src.now l.i l.t _ l.invariant.1 c.write.ensures, c.write.auto.t ∙ l.invariant.2, l.invariant.3)
-
-pub shape_of-t : goal.shape_of-t
-shape_of-t c =
-    c.loop-i.invariant.2
+    (copied_more a.t.now a.from a.src.now l.i l.t _ l.invariant.0 c.write.ensures, c.write.auto.t ∙ l.invariant.1, l.invariant.2)
 
 pub returns : goal.returns
 returns c =
     let l = c.loop-i in
     let a = c.args in
     let e : l.i ≡ length a.src.now = omega arith in
-    l.invariant.1 ∙ ap (copied a.t.now a.from a.src.now) e
+    l.invariant.0 ∙ ap (copied a.t.now a.from a.src.now) e

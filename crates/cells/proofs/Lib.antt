@@ -1,0 +1,2 @@
+-- Tests of every cell.
+pub mod Zeros
