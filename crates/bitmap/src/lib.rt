@@ -21,7 +21,7 @@ pub fn set_flag(words: &mut [u64], i: usize)
     ensures { words.new ≡ with_flag words.old i }
 {
     let w = i / WORD_BITS;
-    words[w] = words[w] | (1 << (i % WORD_BITS));
+    words[w] |= 1 << (i % WORD_BITS);
 }
 
 // The mask of `count` bits from bit `from` on.

@@ -1,4 +1,3 @@
-use mathlib.Core.Path.{refl}
 use borrow.Author.Rules.{rules}
 use Rattle.access.specs.Rights.{has}
 use Rattle.bitmap.specs.Bitmap.{flag}

@@ -1,5 +1,4 @@
 use native.Mathlib.Omega.{arith}
-use borrow.Author.Rules.{rules}
 use Rattle.bitmap.proofs.Masks.{ones_shifted}
 use Rattle.bitmap.proofs.mask.Goals as goal
 
