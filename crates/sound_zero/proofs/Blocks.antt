@@ -1,18 +1,18 @@
--- Blocks of cells: joined by bit-or they are 0 exactly if each cell is 0. Assumes nothing.
-use mathlib.Core.Path.{◌≡◌, sym}
-use mathlib.Core.Bool.{Bool, true, false, ◌&&◌, and_assoc}
-use mathlib.Core.List.{List}
-use Prim.Native.Nat.{ℕ, ◌+◌, ◌-◌, ◌≤◌}
-use native.Mathlib.Nat.{add-zero}
+-- Blocks of eight cells: joined by bit-or they are 0 exactly if each cell is 0. Assumes nothing.
+use mathlib.Core.Path.{◌≡◌, refl, sym, ap, ◌∙◌}
+use mathlib.Core.Bool.{true, false, ◌&&◌, and_assoc}
+use mathlib.Core.List.{List, []}
+use Prim.Native.Nat.{ℕ, zero, suc, ◌+◌, ◌-◌, ◌*◌, ◌/◌, ◌<◌}
 use native.Mathlib.Omega.{arith}
 use lib.Bits.{bit_or, or_add_and, and_le_l, and_le_r}
 use lib.Dec.{eqb, ltb}
-use lib.ListN.{length, get_or}
+use lib.ListN.{length, get_or, drop}
+use Rattle.std.specs.Simd.{first_chunks}
+use Rattle.std.proofs.lemmas.List.{get_or-drop, drop-drop}
 use borrow.Author.Tests.{eqb-true, eq-eqb, ltb-true, ltb-false}
 use Rattle.laws.specs.Tests.{all_below}
 use Rattle.laws.specs.Cells.{part, zeros}
 use Rattle.laws.proofs.Bools.{and_l, and_r, both, split, clash, agree}
-use Rattle.laws.proofs.Tests.{all-at, all_of_lem}
 use Rattle.laws.proofs.Cells.{zeros-at, zeros_of, zeros-part-at, zeros_part_of}
 
 -- a bit-or is 0 exactly if both numbers are
@@ -33,38 +33,45 @@ joined : (a b c d e f g h : ℕ) → eqb (bit_or (bit_or (bit_or (bit_or a b) c)
     ≡ (((((((eqb a 0 && eqb b 0) && eqb c 0) && eqb d 0) && eqb e 0) && eqb f 0) && eqb g 0) && eqb h 0)
 joined a b c d e f g h = simp (or_zero, and_assoc)
 
+-- a block of eight cells
 module _ (t : List ℕ) where
-  abbrev at : ℕ → ℕ
+  abbrev pub at : ℕ → ℕ
   at n = get_or t n 0
 
-  pub block : (i : ℕ) → eqb (bit_or (bit_or (bit_or (bit_or (at i) (at (i + 1))) (at (i + 2))) (at (i + 3))) (bit_or (bit_or (bit_or (at (i + 4)) (at (i + 5))) (at (i + 6))) (at (i + 7)))) 0
-      ≡ all_below (λ k. eqb (at (i + k)) 0) 8
-  unfolding all_below
-  block i = rw (add-zero i) (joined (at i) (at (i + 1)) (at (i + 2)) (at (i + 3)) (at (i + 4)) (at (i + 5)) (at (i + 6)) (at (i + 7)))
+  pub block : length t ≡ 8 → eqb (bit_or (bit_or (bit_or (bit_or (at 0) (at 1)) (at 2)) (at 3)) (bit_or (bit_or (bit_or (at 4) (at 5)) (at 6)) (at 7))) 0 ≡ zeros t
+  unfolding zeros all_below
+  block e = joined (at 0) (at 1) (at 2) (at 3) (at 4) (at 5) (at 6) (at 7) ∙ sym (ap (all_below (λ i. eqb (at i) 0)) e)
 
--- a block after the numbers below i
-module _ (p : ℕ → Bool) (i m : ℕ) where
-  pub block_more : all_below p i ≡ true → all_below (λ k. p (i + k)) m ≡ true → all_below p (i + m) ≡ true
-  block_more h b =
-      all_of_lem p (i + m)
-      (λ j l. split (ltb j i)
-      (λ q. all-at p i j h (ltb-true j i q))
-      (λ q.
-      let g : i ≤ j = ltb-false j i q in
-      let e : i + (j - i) ≡ j = omega arith in
-      rw e at (all-at (λ k. p (i + k)) m (j - i) b (omega arith))))
+-- ---- a table by its blocks
+-- block k has the cells from 8 * k on
+chunk : (t : List ℕ) (n k : ℕ) → k < n → get_or (first_chunks 8 n t) k [] ≡ part t (8 * k) (8 * k + 8)
+chunk t zero k h = absurd (omega arith)
+chunk t (suc n) zero h = refl
+chunk t (suc n) (suc k) h =
+    let e : 8 * k + 8 - 8 * k ≡ 8 * suc k + 8 - 8 * suc k = omega arith in
+    let d : 8 + 8 * k ≡ 8 * suc k = omega arith in
+    chunk (drop 8 t) n k (omega arith) ∙ rw (drop-drop (8 * k) 8 t, d, e) refl
 
-  pub block_fails : (n : ℕ) → i + m ≤ n → all_below (λ k. p (i + k)) m ≡ false → false ≡ all_below p n
-  block_fails n l b =
-      split (all_below p n)
-      (λ q. clash (all_below (λ k. p (i + k)) m) (all_of_lem (λ k. p (i + k)) m (λ k g. all-at p n (i + k) q (omega arith))) b)
+module _ (t : List ℕ) (blocks : List (List ℕ)) (is : blocks ≡ first_chunks 8 (length t / 8) t) where
+  block_at : (k : ℕ) → k < length t / 8 → get_or blocks k [] ≡ part t (8 * k) (8 * k + 8)
+  block_at k h = rw is (chunk t (length t / 8) k h)
+
+  -- a block that is not 0
+  pub block_fails : (k : ℕ) → k < length t / 8 → zeros (get_or blocks k []) ≡ false → false ≡ zeros t
+  block_fails k h z = split (zeros t)
+      (λ q. clash (zeros (get_or blocks k [])) (rw (block_at k h) (zeros_part_of t (8 * k) (8 * k + 8) (λ n a b. zeros-at t q n))) z)
       (λ q. sym q)
 
--- the cells after those below i decide
-pub zeros-rest : (t : List ℕ) (i : ℕ) → i ≤ length t → all_below (λ j. eqb (get_or t j 0) 0) i ≡ true → zeros (part t i (length t)) ≡ zeros t
-zeros-rest t i l h =
-    agree (zeros (part t i (length t))) (zeros t)
-    (λ q. zeros_of t (λ j g. split (ltb j i)
-    (λ b. eqb-true (get_or t j 0) 0 (all-at (λ k. eqb (get_or t k 0) 0) i j h (ltb-true j i b)))
-    (λ b. zeros-part-at t i (length t) q j (ltb-false j i b) g)))
-    (λ q. zeros_part_of t i (length t) (λ j a b. zeros-at t q j))
+  -- the cells after the blocks decide
+  pub zeros-rest : ((k : ℕ) → k < length t / 8 → zeros (get_or blocks k []) ≡ true) → zeros (drop (length t / 8 * 8) t) ≡ zeros t
+  zeros-rest f =
+      let m : ℕ = length t / 8 * 8 in
+      agree (zeros (drop m t)) (zeros t)
+      (λ q. zeros_of t (λ j g. split (ltb j m)
+      (λ b. let l = ltb-true j m b in
+      let h : j / 8 < length t / 8 = omega arith in
+      zeros-part-at t (8 * (j / 8)) (8 * (j / 8) + 8) (rw (block_at (j / 8) h) at (f (j / 8) h)) j (omega arith) (omega arith))
+      (λ b. let l = ltb-false j m b in
+      let e : m + (j - m) ≡ j = omega arith in
+      rw e at (sym (get_or-drop m t (j - m) 0) ∙ zeros-at (drop m t) q (j - m)))))
+      (λ q. zeros_of (drop m t) (λ i h. get_or-drop m t i 0 ∙ zeros-at t q (m + i)))
