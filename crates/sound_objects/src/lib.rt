@@ -33,14 +33,12 @@ pub fn rows_used(entries: &[u64]) -> usize
     requires { length entries.now ≡ entry_width * max_entries }
     ensures { result ≡ block_rows * used_blocks entries.now blocks }
 {
-    let mut n = MAX_ENTRIES / BLOCK_ROWS;
-    while n > 0 {
-        let from = BLOCK_CELLS * (n - 1);
+    for n in (0..MAX_ENTRIES / BLOCK_ROWS).rev() {
+        let from = BLOCK_CELLS * n;
         let to = from + BLOCK_CELLS;
         if !all_zero(&entries[from..to]) {
-            return BLOCK_ROWS * n;
+            return BLOCK_ROWS * (n + 1);
         }
-        n -= 1;
     }
     0
 }
@@ -78,6 +76,6 @@ pub fn search(entries: &[u64], links: &[u16], object: u64, root: usize) -> Place
         if at == 0 {
             return Place { node: 0, cell };
         }
-        key = key / BRANCHES as u64;
+        key /= BRANCHES as u64;
     }
 }

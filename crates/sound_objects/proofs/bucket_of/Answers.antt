@@ -1,4 +1,3 @@
-use mathlib.Core.Path.{refl}
 use borrow.Author.Rules.{rules}
 use Rattle.sound_objects.specs.Objects.{bucket_of}
 use Rattle.sound_objects.proofs.bucket_of.Goals as goal

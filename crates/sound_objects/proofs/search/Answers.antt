@@ -1,9 +1,8 @@
-use mathlib.Core.Path.{◌≡◌, refl, sym, ap}
-use Prim.Native.Nat.{ℕ, ◌-◌, ◌≤◌}
+use mathlib.Core.Path.{refl, sym, ap}
+use Prim.Native.Nat.{ℕ, ◌-◌}
 use native.Mathlib.Omega.{arith}
 use lib.ListN.{get_or}
-use Rattle.access.specs.Limits.{max_entries}
-use Rattle.sound_objects.specs.Objects.{key_of, key_below, Found, here, next, Missed, ends, goes}
+use Rattle.sound_objects.specs.Objects.{key_of, key_below, here, next, ends, goes}
 use Rattle.sound_objects.proofs.Trees.{child_node, child_after}
 use Rattle.sound_objects.proofs.search.Goals as goal
 
@@ -17,11 +16,6 @@ unfolding key_of key_below
 returns-then-entries-f c =
     let l = c.loop-object.invariant in
     record { node_in = l.0.1; cell_in = omega arith; found = λ d. l.1.0 _ (here d c.if-entries-f.true); missed = λ z. absurd (l.0.0 z) }
-
-pub overflow_cast-at : goal.overflow_cast-at
-unfolding key_of key_below
-overflow_cast-at c =
-    omega (arith, c.shared_slice_known-in-loop-object-2-1.given c.child_of-cell.result)
 
 pub returns-then-at-eq0 : goal.returns-then-at-eq0
 unfolding key_of key_below

@@ -1,11 +1,8 @@
 -- The invariant: what the search from `at` comes to, the search from the root does.
-use mathlib.Core.Path.{◌≡◌, refl, sym, ap}
+use mathlib.Core.Path.{◌≡◌}
 use Prim.Native.Nat.{ℕ, ◌-◌, ◌≤◌}
-use native.Mathlib.Omega.{arith}
-use lib.ListN.{get_or}
 use Rattle.access.specs.Limits.{max_entries}
-use Rattle.sound_objects.specs.Objects.{key_of, key_below, Found, here, next, Missed, ends, goes}
-use Rattle.sound_objects.proofs.Trees.{child_node, child_after}
+use Rattle.sound_objects.specs.Objects.{key_of, Found, Missed}
 use Rattle.sound_objects.proofs.search.Given as goal
 
 abbrev pub invariant-loop-object : goal.invariant-loop-object
