@@ -55,13 +55,5 @@ pub fn rows_sound(entries: &[u64], end: usize, next: u64) -> bool
     requires { Ends entries.now end }
     ensures { result ≡ all_below (row_sound entries.now next) max_entries }
 {
-    let mut e = 0;
-    while e < end {
-        if row_sound(entries, next, e) {
-            e += 1;
-        } else {
-            return false;
-        }
-    }
-    true
+    (0..end).all(|e| row_sound(entries, next, e))
 }

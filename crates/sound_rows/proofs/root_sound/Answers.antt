@@ -1,4 +1,3 @@
-use borrow.Author.Rules.{rules}
 use Rattle.laws.proofs.Conditions.{all-is, conditions}
 use Rattle.sound_tree.specs.Tree.{root_sound}
 use Rattle.sound_rows.proofs.root_sound.Goals as goal

@@ -1,27 +1,21 @@
-use Prim.Native.Nat.{◌≤◌, ◌-◌}
-use mathlib.Core.Path.{◌≡◌, sym, ◌∙◌}
-use mathlib.Core.Bool.{true}
+use Prim.Native.Nat.{◌-◌}
+use mathlib.Core.Path.{◌≡◌, refl, ◌∙◌}
 use native.Mathlib.Omega.{arith}
-use borrow.Author.Rules.{rules}
-use Rattle.laws.specs.Tests.{all_below}
-use Rattle.laws.proofs.Tests.{all_none, all_more, all_fails}
+use Rattle.std.proofs.Common.{rules, tests}
+use Rattle.std.proofs.lemmas.Iterator.{YieldsList-from_range}
+use Rattle.std.proofs.lemmas.Iterator.Search.{all_from_yields_List}
+use Rattle.laws.proofs.Ranges.{all_range}
+use Rattle.access.specs.Limits.{max_entries}
 use Rattle.sound_tree.specs.Fast.{row_sound}
-use Rattle.sound_tree.proofs.Rows.{all_past, row_past}
+use Rattle.sound_tree.proofs.Rows.{row_past}
+use Rattle.sound_rows.proofs.Ends.{ends_decide}
 use Rattle.sound_rows.proofs.rows_sound.Goals as goal
-
-pub loop-e-init : goal.loop-e-init
-loop-e-init c =
-    (omega arith, all_none _)
-
-pub loop-e-preserved : goal.loop-e-preserved
-loop-e-preserved c =
-    (omega arith, all_more _ _ c.loop-e.invariant.1 (sym c.row_sound.ensures ∙ c.if-row_sound.true))
-
-pub returns-else-row_sound : goal.returns-else-row_sound
-returns-else-row_sound c =
-    all_fails _ _ c.loop-e.e (omega arith) (sym c.row_sound.ensures ∙ c.if-row_sound.false)
 
 pub returns : goal.returns
 returns c =
-    let l = c.loop-e in
-    all_past _ _ c.args.end l.e (omega arith) l.invariant.1 (λ j k. row_past _ _ j c.requires k)
+    let a = c.args in
+    let p = row_sound a.entries.now a.next in
+    let whole : a.end - 0 ≡ a.end = omega arith in
+    all_from_yields_List p _ _ _ c.all.ensures.ran (YieldsList-from_range 0 a.end a.end refl whole) (λ x b q k. search (rules, tests))
+    ∙ all_range p a.end
+    ∙ ends_decide p max_entries a.end (omega arith) (λ j k. row_past _ _ j c.requires k)

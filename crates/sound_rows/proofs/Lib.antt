@@ -1,0 +1,2 @@
+-- The rows from the end on.
+pub mod Ends
