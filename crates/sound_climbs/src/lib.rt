@@ -17,10 +17,10 @@ fn climb_ends(entries: &[u64], marks: &mut [u64], e: usize) -> bool
     requires { (length entries.now ≡ entry_width * max_entries) × (((e < max_entries) × (live entries.now e ≡ true)) × (ParentsLive entries.now × Known entries.now marks.old e)) }
     ensures { (result ≡ reaches entries.now max_entries e) × (result ≡ true → Known entries.now marks.new (e + 1)) }
 {
+    // A number, with 0 for no mark: the table starts as zeros, and one comparison tells the climb's own mark from an older one.
     let own = e as u64 + 1;
     let mut at = e;
-    let mut n = MAX_ENTRIES;
-    while n > 0 {
+    for _ in 0..MAX_ENTRIES {
         if at == 0 {
             return true;
         }
@@ -30,7 +30,6 @@ fn climb_ends(entries: &[u64], marks: &mut [u64], e: usize) -> bool
         }
         marks[at] = own;
         at = entries[ENTRY_WIDTH * at + ENTRY_PARENT] as usize;
-        n -= 1;
     }
     at == 0
 }
@@ -41,14 +40,12 @@ pub fn climbs_end(entries: &[u64], end: usize) -> bool
     ensures { result ≡ all_below (live_climb_ends entries.now) max_entries }
 {
     let mut marks = [0u64; MAX_ENTRIES];
-    let mut e = 0;
-    while e < end {
+    for e in 0..end {
         if entries[ENTRY_WIDTH * e] != 0 {
             if !climb_ends(entries, &mut marks, e) {
                 return false;
             }
         }
-        e += 1;
     }
     true
 }
