@@ -12,10 +12,6 @@ pub loop-e-init : goal.loop-e-init
 loop-e-init c =
     (known-none _, all_none _)
 
-pub slice_bounds-climb_ends-end : goal.slice_bounds-climb_ends-end
-slice_bounds-climb_ends-end c =
-    sym c.loop-e.invariant.0.0
-
 pub climb_ends-requires : goal.climb_ends-requires
 climb_ends-requires c =
     let p = c.requires in
