@@ -17,13 +17,11 @@ use tables::rows::{DIRECTORY, ENTRY_OBJECT, ENTRY_WIDTH};
 fn kinds_agree(k: u64, l: u64) -> bool
     ensures { result ≡ kinds_agree k l }
 {
-    if k != l {
-        return false;
-    }
-    k != DIRECTORY
+    k == l && k != DIRECTORY
 }
 
 // Adds entry `e` to the index of objects if it is live and the first of its object; otherwise it agrees with the first, which stands for all of them.
+#[tactic(auto, using(sound_objects::proofs::Index::bucket_in))]
 fn add_entry(entries: &[u64], heads: &mut [u16], links: &mut [u16], e: usize) -> bool
     requires { ((length entries.now ≡ entry_width * max_entries) × (e < max_entries)) × IndexedBelow entries.now heads.old links.old e }
     ensures { (result ≡ links_sound entries.now e) × (result ≡ true → IndexedBelow entries.now heads.new links.new (e + 1)) }
@@ -54,12 +52,10 @@ pub fn objects_sound(entries: &[u64], end: usize, heads: &mut [u16], links: &mut
     requires { Ends entries.now end × ((heads.old ≡ replicate buckets 0) × (links.old ≡ replicate (branches * max_entries) 0)) }
     ensures { (result ≡ all_below (links_sound entries.now) max_entries) × (result ≡ true → Indexed entries.now heads.new links.new) }
 {
-    let mut e = 0;
-    while e < end {
+    for e in 0..end {
         if !add_entry(entries, heads, links, e) {
             return false;
         }
-        e += 1;
     }
     true
 }

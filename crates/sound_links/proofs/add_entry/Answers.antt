@@ -1,7 +1,5 @@
-use native.Mathlib.Omega.{arith}
-use borrow.Author.Rules.{rules}
 use Rattle.sound_objects.proofs.Live.{live_no, live_yes}
-use Rattle.sound_objects.proofs.Index.{bucket_in, trees_more, index_free}
+use Rattle.sound_objects.proofs.Index.{index_free}
 use Rattle.sound_tree.proofs.Rows.{links-free}
 use Rattle.sound_links.proofs.Adds.{adds_root, adds_same, adds_child}
 use Rattle.sound_links.proofs.add_entry.Goals as goal
@@ -11,39 +9,10 @@ returns-then-kind-eq0 c =
     let l = live_no _ _ c.if-kind-eq0.true in
     (links-free _ _ l, λ r. index_free _ c.requires.1 l)
 
-pub offset_bounds-heads-b : goal.offset_bounds-heads-b
-offset_bounds-heads-b c =
-    let k = bucket_in _ c.bucket_of-b.ensures in omega arith
-
-pub bounds-heads-b : goal.bounds-heads-b
-bounds-heads-b c =
-    let k = bucket_in _ c.bucket_of-b.ensures in
-    let w = c.requires.1.size in
-    omega arith
-
-pub overflow_cast-root : goal.overflow_cast-root
-overflow_cast-root c =
-    omega (arith, c.slice_known-3-1.given c.bucket_of-b.result)
-
-pub offset_bounds-heads-b-then-root-eq0 : goal.offset_bounds-heads-b-then-root-eq0
-offset_bounds-heads-b-then-root-eq0 c =
-    let k = bucket_in _ c.bucket_of-b.ensures in omega arith
-
-pub bounds-heads-b-then-root-eq0 : goal.bounds-heads-b-then-root-eq0
-bounds-heads-b-then-root-eq0 c =
-    let k = bucket_in _ c.bucket_of-b.ensures in
-    let w = c.requires.1.size in
-    omega arith
-
 pub returns-then-root-eq0 : goal.returns-then-root-eq0
 returns-then-root-eq0 c =
     let r = adds_root _ _ c.args.links.now c.requires.0.1 c.requires.1 (live_yes _ _ c.if-kind-eq0.false) c.bucket_of-b.ensures c.if-root-eq0.true in
     (r.0, λ h. r.1)
-
-pub search-place-requires : goal.search-place-requires
-search-place-requires c =
-    let u = c.requires.1 in
-    (c.requires.0.0, (trees_more _ (omega arith) u.trees, (c.if-root-eq0.false, (let n = (u.roots c.bucket_of-b.result c.if-root-eq0.false).0 in omega arith))))
 
 pub returns-then-node-ne0 : goal.returns-then-node-ne0
 returns-then-node-ne0 c =

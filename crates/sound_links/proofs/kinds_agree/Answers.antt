@@ -1,4 +1,7 @@
+use mathlib.Core.Path.{◌∙◌}
+use borrow.Author.Tests.{ne_eqb}
 use Rattle.laws.proofs.Conditions.{all-is, conditions}
+use Rattle.laws.proofs.Tests.{all_of_no}
 use Rattle.sound_tree.specs.Fast.{kinds_agree}
 use Rattle.sound_links.proofs.kinds_agree.Goals as goal
 
@@ -7,7 +10,7 @@ unfolding kinds_agree
 returns-then-k-l c =
     all-is (search conditions depth 16)
 
-pub returns : goal.returns
+pub returns-else-k-l : goal.returns-else-k-l
 unfolding kinds_agree
-returns c =
-    all-is (search conditions depth 16)
+returns-else-k-l c =
+    let n = ne_eqb c.args.k c.args.l c.if-k-l.false in n ∙ all_of_no _ 0 n
