@@ -1,7 +1,6 @@
-use mathlib.Core.Path.{◌≡◌, refl, ap, ◌∙◌}
+use mathlib.Core.Path.{refl, ◌∙◌}
 use native.Mathlib.Omega.{arith}
 use lib.ListN.{length}
-use Rattle.laws.specs.Cells.{copied}
 use Rattle.laws.proofs.Copies.{copied_none, copied_more, copied-past}
 use Rattle.cells.proofs.copy.Goals as goal
 
@@ -18,10 +17,3 @@ loop-i-preserved c =
     let l = c.loop-i in
     let a = c.args in
     (copied_more a.t.now a.from a.src.now l.i l.t _ l.invariant.0 c.write.ensures, c.write.auto.t ∙ l.invariant.1, l.invariant.2)
-
-pub returns : goal.returns
-returns c =
-    let l = c.loop-i in
-    let a = c.args in
-    let e : l.i ≡ length a.src.now = omega arith in
-    l.invariant.0 ∙ ap (copied a.t.now a.from a.src.now) e
