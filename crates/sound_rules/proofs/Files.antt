@@ -10,7 +10,7 @@ use Rattle.laws.proofs.Bools.{split, clash, not_of_true, not_of_false}
 use Rattle.laws.proofs.Tests.{any_found, none_of}
 use Rattle.access.specs.Kinds.{directory}
 use Rattle.access.specs.Limits.{max_entries}
-use Rattle.tables.specs.Tables.{kind, object, live, is_dir}
+use Rattle.tables.specs.Tables.{kind, live, is_dir}
 use Rattle.sound_objects.specs.Objects.{bucket_of, key_of, Found, Missed, Stands, Indexed}
 use Rattle.sound_objects.proofs.Live.{first, first_kind, same_dir}
 use Rattle.sound_objects.proofs.Trees.{found_some, found-object, found-node, missed-none}

@@ -89,13 +89,11 @@ pub fn cells_sound(
     requires { (length entries.now ≡ entry_width * max_entries) × Indexed entries.now heads.now links.now }
     ensures { result ≡ cells_sound entries.now next fs.0 net.0 ty key rights.0 }
 {
-    if ty == PATH_RULE {
-        return path_sound(entries, heads, links, next, fs, key, rights);
+    match ty {
+        PATH_RULE => path_sound(entries, heads, links, next, fs, key, rights),
+        PORT_RULE => port_sound(net, key, rights),
+        _ => false,
     }
-    if ty == PORT_RULE {
-        return port_sound(net, key, rights);
-    }
-    false
 }
 
 // The level knows every right of the masks.

@@ -1,20 +1,18 @@
-use borrow.Author.Rules.{rules}
-use borrow.Author.Tests.{eq-eqb, ne_eqb}
-use Rattle.tables.specs.Tables.{path_rule, port_rule}
+use Rattle.std.proofs.Common.{rules, tests}
 use Rattle.sound_rules.specs.Rules.{cells_sound}
 use Rattle.sound_rules.proofs.cells_sound.Goals as goal
 
-pub returns-then-ty-eq-PATH_RULE : goal.returns-then-ty-eq-PATH_RULE
+pub returns-in-1 : goal.returns-in-1
 unfolding cells_sound
-returns-then-ty-eq-PATH_RULE c =
-    rw (eq-eqb _ path_rule c.if-ty-eq-PATH_RULE.true) c.path_sound.ensures
+returns-in-1 c =
+    rw (c.in-1.is) c.path_sound.ensures
 
-pub returns-then-ty-eq-PORT_RULE : goal.returns-then-ty-eq-PORT_RULE
+pub returns-in-2 : goal.returns-in-2
 unfolding cells_sound
-returns-then-ty-eq-PORT_RULE c =
-    rw (ne_eqb _ path_rule c.if-ty-eq-PATH_RULE.false, eq-eqb _ port_rule c.if-ty-eq-PORT_RULE.true) c.port_sound.ensures
+returns-in-2 c =
+    rw (c.in-2.is) c.port_sound.ensures
 
-pub returns : goal.returns
+pub returns-in_default : goal.returns-in_default
 unfolding cells_sound
-returns c =
-    rw (ne_eqb _ path_rule c.if-ty-eq-PATH_RULE.false, ne_eqb _ port_rule c.if-ty-eq-PORT_RULE.false)
+returns-in_default c =
+    search (tests, rules)

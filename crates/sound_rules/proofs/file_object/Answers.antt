@@ -1,6 +1,5 @@
 use mathlib.Core.Path.{refl}
 use native.Mathlib.Omega.{arith}
-use borrow.Author.Rules.{rules}
 use Rattle.sound_objects.proofs.Index.{bucket_in}
 use Rattle.sound_rules.proofs.Files.{file_no_root, file_no_node, file_by_node}
 use Rattle.sound_rules.proofs.file_object.Goals as goal
@@ -15,18 +14,9 @@ bounds-heads-bucket_of c =
     let w = c.requires.1.size in
     omega arith
 
-pub overflow_cast-root : goal.overflow_cast-root
-overflow_cast-root c =
-    omega (arith, c.shared_slice_known-4-1.given c.bucket_of.result)
-
 pub returns-then-root-eq0 : goal.returns-then-root-eq0
 returns-then-root-eq0 c =
     file_no_root _ c.args.heads.now _ _ c.requires.1 c.bucket_of.ensures c.if-root-eq0.true
-
-pub search-place-requires : goal.search-place-requires
-search-place-requires c =
-    let u = c.requires.1 in
-    (c.requires.0, (u.trees, (c.if-root-eq0.false, (u.roots c.bucket_of.result c.if-root-eq0.false).0)))
 
 pub returns-then-node-eq0 : goal.returns-then-node-eq0
 returns-then-node-eq0 c =

@@ -1,4 +1,3 @@
-use borrow.Author.Rules.{rules}
 use Rattle.laws.proofs.Conditions.{all-is, conditions}
 use Rattle.sound_rules.specs.Rules.{masks_known}
 use Rattle.sound_rules.proofs.masks_known.Goals as goal

@@ -1,4 +1,3 @@
-use borrow.Author.Rules.{rules}
 use Rattle.laws.proofs.Conditions.{all-is, conditions}
 use Rattle.sound_rules.specs.Rules.{port_sound}
 use Rattle.sound_rules.proofs.port_sound.Goals as goal

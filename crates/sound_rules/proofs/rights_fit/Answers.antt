@@ -1,6 +1,5 @@
 use mathlib.Core.Path.{sym, ap, ◌∙◌}
 use mathlib.Core.Bool.{not}
-use borrow.Author.Rules.{rules}
 use Rattle.sound_rules.specs.Rules.{rights_fit}
 use Rattle.sound_rules.proofs.rights_fit.Goals as goal
 
@@ -8,11 +7,6 @@ pub returns-then-contains : goal.returns-then-contains
 unfolding rights_fit
 returns-then-contains c =
     rw (sym c.contains.ensures ∙ c.if-contains.true)
-
-pub file_object-requires : goal.file_object-requires
-unfolding rights_fit
-file_object-requires c =
-    c.requires
 
 pub returns : goal.returns
 unfolding rights_fit
