@@ -2,7 +2,7 @@
 use mathlib.Core.Path.{◌≡◌, sym, ap, ◌∙◌}
 use mathlib.Core.Bool.{Bool, true}
 use mathlib.Core.List.{List}
-use Prim.Native.Nat.{ℕ, ◌+◌, ◌-◌, ◌≤◌, ◌<◌}
+use Prim.Native.Nat.{ℕ, ◌+◌, ◌-◌, ◌<◌}
 use native.Mathlib.Omega.{arith}
 use lib.ListN.{get_or, set}
 use borrow.Author.Tests.{eqb-true}
@@ -21,6 +21,9 @@ agree_kinds : (k l : ℕ) → kinds_agree k l ≡ true → l ≡ k
 unfolding kinds_agree
 agree_kinds k l h = sym (eqb-true k l (all_of-at _ 0 h))
 
+held_entry : {f : ℕ} → f + 1 - 1 ≡ f
+held_entry = omega arith
+
 -- live entry e, whose object falls into bucket b
 module _ (es heads links : List ℕ) {e b : ℕ} (k : e < max_entries) (u : IndexedBelow es heads links e) (l : live es e ≡ true) (q : b ≡ bucket_of (object es e)) where
   -- the bucket is empty
@@ -30,16 +33,17 @@ module _ (es heads links : List ℕ) {e b : ℕ} (k : e < max_entries) (u : Inde
       (links-none es e (λ f i a p. found_some (u.held f (object es e) i a p).found y), rw q (index_root es u k l y))
 
   -- its object has a node
-  module _ {to : ℕ} (s : Found es links (object es e) (get_or heads b 0) (key_of (object es e)) to) where
-    node_in : (to ≤ e) × (live es (to - 1) ≡ true)
-    node_in = let r = u.roots b (found_some s) in found-node es links u.trees.nodes s r.0 r.1
+  module _ (f : ℕ) (s : Found es links (object es e) (get_or heads b 0) (key_of (object es e)) (f + 1)) where
+    node_in : (f < e) × (live es f ≡ true)
+    node_in = let r = u.roots b (found_some s) in let n = found-node es links u.trees.nodes s r.0 r.1 in (omega arith, rw held_entry at n.1)
 
-    pub adds_same : {r : Bool} → (to ≡ 0 → ⊥) → r ≡ kinds_agree (first es e) (first es (to - 1)) → (r ≡ links_sound es e) × (r ≡ true → IndexedBelow es heads links (e + 1))
-    adds_same {r} d h =
-        let t : Found es links (object es e) (get_or heads (bucket_of (object es e)) 0) (key_of (object es e)) to = rw q at s in
-        let g : r ≡ kinds_agree (kind es e) (kind es (to - 1)) = rw (first_kind es e, first_kind es (to - 1)) at h in (
-          links-same es e (to - 1) (let n = node_in.0 in omega arith) l node_in.1 (found-object s) (λ j i a p. stands_alike es (u.held j (object es e) i a p) t) g,
-          λ y. index_same es u t (agree_kinds (kind es e) (kind es (to - 1)) (sym g ∙ y)),
+    pub adds_same : {r : Bool} → r ≡ kinds_agree (first es e) (first es f) → (r ≡ links_sound es e) × (r ≡ true → IndexedBelow es heads links (e + 1))
+    adds_same {r} h =
+        let t : Found es links (object es e) (get_or heads (bucket_of (object es e)) 0) (key_of (object es e)) (f + 1) = rw q at s in
+        let g : r ≡ kinds_agree (kind es e) (kind es f) = rw (first_kind es e, first_kind es f) at h in
+        let z : f + 1 - 1 ≡ f = omega arith in (
+          links-same es e f node_in.0 l node_in.1 (rw z at (found-object s)) (λ j i a p. rw z at (stands_alike es (u.held j (object es e) i a p) t)) g,
+          λ y. index_same es u t (rw z (agree_kinds (kind es e) (kind es f) (sym g ∙ y))),
         )
 
   -- or an empty cell

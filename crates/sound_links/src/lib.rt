@@ -37,14 +37,13 @@ fn add_entry(entries: &[u64], heads: &mut [u16], links: &mut [u16], e: usize) ->
         heads[b] = (e + 1) as u16;
         return true;
     }
-    let place = search(entries, links, object, root);
-    let node = place.node;
-    if node != 0 {
-        return kinds_agree(kind, entries[ENTRY_WIDTH * (node - 1)]);
+    match search(entries, links, object, root) {
+        Ok(f) => kinds_agree(kind, entries[ENTRY_WIDTH * f]),
+        Err(cell) => {
+            links[cell] = (e + 1) as u16;
+            true
+        }
     }
-    let cell = place.cell;
-    links[cell] = (e + 1) as u16;
-    true
 }
 
 // Entries of one object agree. Fills the index of objects, which starts as zeros.

@@ -1,6 +1,6 @@
 -- An index of the live entries by their objects: a bucket for each fold of an object number, and in each bucket a search tree, in which one
 -- entry stands for all entries of its object. A cell holds an entry's number + 1, or 0 if it is empty.
-use Rattle.std.specs.Prelude.{◌≡◌, true, List, ℕ, ◌+◌, ◌-◌, ◌*◌, ◌/◌, ◌%◌, ◌≤◌, ◌<◌, length, get_or}
+use Rattle.std.specs.Prelude.{◌≡◌, true, List, ℕ, ◌+◌, ◌-◌, ◌*◌, ◌/◌, ◌%◌, ◌≤◌, ◌<◌, length, get_or, Result, MatchResult}
 use Rattle.access.specs.Limits.{max_entries}
 use Rattle.tables.specs.Tables.{kind, object, live}
 
@@ -36,12 +36,10 @@ pub data Missed (es links : List ℕ) (o : ℕ) : ℕ → ℕ → ℕ → Type 0
   ends : {at k p : ℕ} → (at ≡ 0 → ⊥) → (object es (at - 1) ≡ o → ⊥) → p ≡ child_of (at - 1) k → get_or links p 0 ≡ 0 → Missed es links o at k p
   goes : {at k c p : ℕ} → (at ≡ 0 → ⊥) → (object es (at - 1) ≡ o → ⊥) → get_or links (child_of (at - 1) k) 0 ≡ c → Missed es links o c (key_below k) p → Missed es links o at k p
 
--- what a search from the root answers: the object's node; or 0, and the empty cell where it would be
-pub record Searched (es links : List ℕ) (o root node cell : ℕ) : Type 0 where
-  pub node_in : node ≤ max_entries
-  pub cell_in : cell < branches * max_entries
-  pub found : (node ≡ 0 → ⊥) → Found es links o root (key_of o) node
-  pub missed : node ≡ 0 → Missed es links o root (key_of o) cell
+-- what a search from the root answers: the entry that is the object's node, or the empty cell where it would be
+abbrev pub Searched : List ℕ → List ℕ → ℕ → ℕ → Result ℕ ℕ → Type 0
+Searched es links o root r =
+    MatchResult r (λ e. (e < max_entries) × Found es links o root (key_of o) (e + 1)) (λ p. (p < branches * max_entries) × Missed es links o root (key_of o) p)
 
 -- a cell that is not empty holds a live entry below n
 abbrev pub Nodes : List ℕ → List ℕ → ℕ → Type 0

@@ -21,13 +21,6 @@ const BLOCK_ROWS: usize = 8;
 
 const BLOCK_CELLS: usize = ENTRY_WIDTH * BLOCK_ROWS;
 
-// Where a search came to: the object's node, an entry's number + 1; or 0, and the empty cell of `links` where the node would be.
-#[derive(Clone, Copy)]
-pub struct Place {
-    pub node: usize,
-    pub cell: usize,
-}
-
 // The rows up to the last block that is not free.
 pub fn rows_used(entries: &[u64]) -> usize
     requires { length entries.now ≡ entry_width * max_entries }
@@ -57,24 +50,24 @@ fn child_of(f: usize, k: u64) -> usize
     BRANCHES * f + (k % BRANCHES as u64) as usize
 }
 
-// Searches for an object from the root of its bucket's tree. A tree and no chain, since a client that creates and removes entries can bring all
-// objects into one bucket: they are below 2^32, so that a search passes at most 12 nodes, the root and one for each digit, to base 4, above the
-// bucket's bits.
-pub fn search(entries: &[u64], links: &[u16], object: u64, root: usize) -> Place
+// Searches for an object from the root of its bucket's tree: the entry that is its node, or the empty cell of `links` where the node would be.
+// A tree and no chain, since a client that creates and removes entries can bring all objects into one bucket: they are below 2^32, so that a
+// search passes at most 12 nodes, the root and one for each digit, to base 4, above the bucket's bits.
+pub fn search(entries: &[u64], links: &[u16], object: u64, root: usize) -> Result<usize, usize>
     requires { (length entries.now ≡ entry_width * max_entries) × (Trees entries.now links.now max_entries × ((root ≡ 0 → ⊥) × (root ≤ max_entries))) }
-    ensures { Searched entries.now links.now object root result.node result.cell }
+    ensures { Searched entries.now links.now object root result }
 {
     let mut at = root;
     let mut key = object / BUCKETS as u64;
     loop {
         let f = at - 1;
         if entries[ENTRY_WIDTH * f + ENTRY_OBJECT] == object {
-            return Place { node: at, cell: 0 };
+            return Ok(f);
         }
         let cell = child_of(f, key);
         at = links[cell] as usize;
         if at == 0 {
-            return Place { node: 0, cell };
+            return Err(cell);
         }
         key /= BRANCHES as u64;
     }

@@ -2,7 +2,7 @@
 use mathlib.Core.Path.{◌≡◌, sym, ap, ◌∙◌}
 use mathlib.Core.Bool.{Bool, true, false, not}
 use mathlib.Core.List.{List}
-use Prim.Native.Nat.{ℕ, ◌-◌, ◌≤◌, ◌<◌}
+use Prim.Native.Nat.{ℕ, ◌+◌, ◌-◌, ◌<◌}
 use native.Mathlib.Omega.{arith}
 use lib.Dec.{eqb}
 use lib.ListN.{get_or}
@@ -37,16 +37,19 @@ module _ (es heads links : List ℕ) (o : ℕ) {b : ℕ} (u : Indexed es heads l
   file_no_node m = no_file (λ e k h. missed-none (rw q at m) (stands_for e k h).found)
 
   -- or it has one
-  module _ {to : ℕ} (s : Found es links o (get_or heads b 0) (key_of o) to) where
-    node_in : (to ≤ max_entries) × (live es (to - 1) ≡ true)
-    node_in = let r = u.roots b (found_some s) in found-node es links u.trees.nodes s r.0 r.1
+  module _ (f : ℕ) (s : Found es links o (get_or heads b 0) (key_of o) (f + 1)) where
+    own : f + 1 - 1 ≡ f
+    own = omega arith
 
-    file-node : (to ≡ 0 → ⊥) → not (is_dir es (to - 1)) ≡ file_object es o
+    node_in : (f < max_entries) × (live es f ≡ true)
+    node_in = let r = u.roots b (found_some s) in let n = found-node es links u.trees.nodes s r.0 r.1 in (omega arith, rw own at n.1)
+
+    file-node : not (is_dir es f) ≡ file_object es o
     unfolding file_object
-    file-node d = split (is_dir es (to - 1))
-        (λ y. not_of_true _ y ∙ no_file (λ e k h. clash (is_dir es e) (same_dir es e (to - 1) (stands_alike es (stands_for e k h) (rw q at s)) ∙ y) (file_no_dir es o e h)))
-        (λ y. not_of_false _ y ∙ any_found (is_file_of es o) max_entries (to - 1) (let n = node_in.0 in omega arith) (file_of_lem es o (to - 1) node_in.1 y (found-object s)))
+    file-node = split (is_dir es f)
+        (λ y. not_of_true _ y ∙ no_file (λ e k h. clash (is_dir es e) (same_dir es e f (rw own at (stands_alike es (stands_for e k h) (rw q at s))) ∙ y) (file_no_dir es o e h)))
+        (λ y. not_of_false _ y ∙ any_found (is_file_of es o) max_entries f node_in.0 (file_of_lem es o f node_in.1 y (rw own at (found-object s))))
 
-    pub file_by_node : {r : Bool} → (to ≡ 0 → ⊥) → r ≡ not (eqb (first es (to - 1)) directory) → r ≡ file_object es o
+    pub file_by_node : {r : Bool} → r ≡ not (eqb (first es f) directory) → r ≡ file_object es o
     unfolding is_dir
-    file_by_node d h = h ∙ ap (λ (k : ℕ). not (eqb k directory)) (first_kind es (to - 1)) ∙ file-node d
+    file_by_node h = h ∙ ap (λ (k : ℕ). not (eqb k directory)) (first_kind es f) ∙ file-node

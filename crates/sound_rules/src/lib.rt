@@ -21,12 +21,10 @@ fn file_object(entries: &[u64], heads: &[u16], links: &[u16], object: u64) -> bo
     if root == 0 {
         return false;
     }
-    let place = search(entries, links, object, root);
-    let node = place.node;
-    if node == 0 {
-        return false;
+    match search(entries, links, object, root) {
+        Ok(e) => entries[ENTRY_WIDTH * e] != DIRECTORY,
+        Err(_) => false,
     }
-    entries[ENTRY_WIDTH * (node - 1)] != DIRECTORY
 }
 
 fn rights_fit(entries: &[u64], heads: &[u16], links: &[u16], object: u64, rights: Rights) -> bool

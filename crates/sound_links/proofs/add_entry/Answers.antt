@@ -14,11 +14,11 @@ returns-then-root-eq0 c =
     let r = adds_root _ _ c.args.links.now c.requires.0.1 c.requires.1 (live_yes _ _ c.if-kind-eq0.false) c.bucket_of-b.ensures c.if-root-eq0.true in
     (r.0, λ h. r.1)
 
-pub returns-then-node-ne0 : goal.returns-then-node-ne0
-returns-then-node-ne0 c =
-    adds_same _ c.args.heads.now c.args.links.now c.requires.0.1 c.requires.1 (live_yes _ _ c.if-kind-eq0.false) c.bucket_of-b.ensures (c.search-place.ensures.found c.if-node-ne0.true) c.if-node-ne0.true c.kinds_agree.ensures
+pub returns-in-Ok : goal.returns-in-Ok
+returns-in-Ok c =
+    adds_same _ c.args.heads.now c.args.links.now c.requires.0.1 c.requires.1 (live_yes _ _ c.if-kind-eq0.false) c.bucket_of-b.ensures _ c.in-Ok.ensures.1 c.kinds_agree.ensures
 
-pub returns : goal.returns
-returns c =
-    let r = adds_child _ c.args.heads.now _ c.requires.0.1 c.requires.1 (live_yes _ _ c.if-kind-eq0.false) c.bucket_of-b.ensures (c.search-place.ensures.missed c.if-node-ne0.false) in
+pub returns-in-Err : goal.returns-in-Err
+returns-in-Err c =
+    let r = adds_child _ c.args.heads.now _ c.requires.0.1 c.requires.1 (live_yes _ _ c.if-kind-eq0.false) c.bucket_of-b.ensures c.in-Err.ensures.1 in
     (r.0, λ h. r.1)

@@ -1,5 +1,5 @@
-use mathlib.Core.Path.{refl, sym, ap}
-use Prim.Native.Nat.{ℕ, ◌-◌}
+use mathlib.Core.Path.{◌≡◌, refl, sym, ap}
+use Prim.Native.Nat.{ℕ, ◌+◌, ◌-◌}
 use native.Mathlib.Omega.{arith}
 use lib.ListN.{get_or}
 use Rattle.sound_objects.specs.Objects.{key_of, key_below, here, next, ends, goes}
@@ -15,14 +15,15 @@ pub returns-then-entries-f : goal.returns-then-entries-f
 unfolding key_of key_below
 returns-then-entries-f c =
     let l = c.loop-object.invariant in
-    record { node_in = l.0.1; cell_in = omega arith; found = λ d. l.1.0 _ (here d c.if-entries-f.true); missed = λ z. absurd (l.0.0 z) }
+    let e : c.loop-object.at - 1 + 1 ≡ c.loop-object.at = omega arith in
+    (omega arith, rw e (l.1.0 _ (here l.0.0 c.if-entries-f.true)))
 
 pub returns-then-at-eq0 : goal.returns-then-at-eq0
 unfolding key_of key_below
 returns-then-at-eq0 c =
     let l = c.loop-object.invariant in
     let r = c.child_of-cell.ensures in
-    record { node_in = omega arith; cell_in = r.1; found = λ d. absurd (d refl); missed = λ z. l.1.1 _ (ends l.0.0 c.if-entries-f.false r.0 c.if-at-eq0.true) }
+    (r.1, l.1.1 _ (ends l.0.0 c.if-entries-f.false r.0 c.if-at-eq0.true))
 
 pub loop-object-smaller : goal.loop-object-smaller
 unfolding key_of key_below

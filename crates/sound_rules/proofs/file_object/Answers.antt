@@ -18,10 +18,10 @@ pub returns-then-root-eq0 : goal.returns-then-root-eq0
 returns-then-root-eq0 c =
     file_no_root _ c.args.heads.now _ _ c.requires.1 c.bucket_of.ensures c.if-root-eq0.true
 
-pub returns-then-node-eq0 : goal.returns-then-node-eq0
-returns-then-node-eq0 c =
-    file_no_node _ c.args.heads.now _ _ c.requires.1 c.bucket_of.ensures (c.search-place.ensures.missed c.if-node-eq0.true)
+pub returns-in-Ok : goal.returns-in-Ok
+returns-in-Ok c =
+    file_by_node _ c.args.heads.now _ _ c.requires.1 c.bucket_of.ensures _ c.in-Ok.ensures.1 refl
 
-pub returns : goal.returns
-returns c =
-    file_by_node _ c.args.heads.now _ _ c.requires.1 c.bucket_of.ensures (c.search-place.ensures.found c.if-node-eq0.false) c.if-node-eq0.false refl
+pub returns-in-Err : goal.returns-in-Err
+returns-in-Err c =
+    file_no_node _ c.args.heads.now _ _ c.requires.1 c.bucket_of.ensures c.in-Err.ensures.1
