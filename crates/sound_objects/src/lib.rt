@@ -14,7 +14,7 @@ use tables::rows::{ENTRY_OBJECT, ENTRY_WIDTH};
 pub const BUCKETS: usize = 1024;
 // The children of a node.
 const BRANCHES: usize = 4;
-// The cells of the children of all nodes.
+// The cells of the children of all nodes, each an entry's number + 1, or 0: sixteen bits, since all of them are cleared before each call.
 pub const LINKS: usize = BRANCHES * MAX_ENTRIES;
 // The rows of entries that are tested at once.
 const BLOCK_ROWS: usize = 8;
