@@ -1,10 +1,8 @@
 use mathlib.Core.Path.{◌≡◌, ap, ◌∙◌}
-use Prim.Native.Nat.{◌≤◌, ◌-◌, ◌*◌}
 use native.Mathlib.Omega.{arith}
 use lib.Dec.{eqb}
-use borrow.Author.Rules.{rules}
 use Rattle.laws.specs.Sums.{sum_below}
-use Rattle.access.specs.Limits.{max_layers, max_rules}
+use Rattle.access.specs.Limits.{max_layers}
 use Rattle.tables.specs.Layers.{layer_count}
 use Rattle.laws.proofs.Sums.{sum_start, sum_more}
 use Rattle.sound_layers.specs.Layers.{pool_filled}
@@ -13,19 +11,14 @@ use Rattle.sound_runs.proofs.pool_filled.Goals as goal
 pub loop-l-init : goal.loop-l-init
 unfolding pool_filled
 loop-l-init c =
-    (omega arith, omega arith, sum_start _)
-
-pub overflow_add-n-in-loop-l : goal.overflow_add-n-in-loop-l
-unfolding pool_filled
-overflow_add-n-in-loop-l c =
-    let f = (c.requires.1 c.loop-l.l (omega arith)).0 in omega arith
+    (omega arith, sum_start _)
 
 pub loop-l-preserved : goal.loop-l-preserved
 unfolding pool_filled
 loop-l-preserved c =
     let l = c.loop-l in
     let f = (c.requires.1 c.loop-l.l (omega arith)).0 in
-    (omega arith, omega arith, sum_more (layer_count c.args.layers.now) l.l l.n l.invariant.2)
+    (omega arith, sum_more (layer_count c.args.layers.now) l.l l.n l.invariant.1)
 
 pub returns : goal.returns
 unfolding pool_filled
@@ -33,4 +26,4 @@ returns c =
     let l = c.loop-l in
     let e : l.l ≡ max_layers = omega arith in
     let a = c.args in
-    ap (eqb a.taken) (l.invariant.2 ∙ ap (sum_below (layer_count a.layers.now)) e)
+    ap (eqb a.taken) (l.invariant.1 ∙ ap (sum_below (layer_count a.layers.now)) e)
