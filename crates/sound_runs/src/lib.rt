@@ -38,13 +38,10 @@ fn layers_counted(layers: &[u64], used: u64) -> bool
     requires { length layers.now ≡ layer_width * max_layers }
     ensures { result ≡ layers_counted layers.now used }
 {
-    let mut n: u64 = 0;
-    for l in 0..MAX_LAYERS {
-        if layers[LAYER_WIDTH * l + LAYER_HOLDERS] != 0 {
-            n += 1;
-        }
-    }
-    used == n
+    let n = (0..MAX_LAYERS)
+        .filter(|l| layers[LAYER_WIDTH * *l + LAYER_HOLDERS] != 0)
+        .count();
+    used == n as u64
 }
 
 // They have so many rules.
