@@ -49,10 +49,9 @@ fn pool_filled(layers: &[u64], taken: u64) -> bool
     requires { (length layers.now ≡ layer_width * max_layers) × RunsPlaced layers.now max_layers }
     ensures { result ≡ pool_filled layers.now taken }
 {
-    let mut n: u64 = 0;
-    for l in 0..MAX_LAYERS {
-        n += layers[LAYER_WIDTH * l + LAYER_COUNT];
-    }
+    let n: u64 = (0..MAX_LAYERS)
+        .map(|l| layers[LAYER_WIDTH * l + LAYER_COUNT])
+        .sum();
     taken == n
 }
 
