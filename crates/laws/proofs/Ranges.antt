@@ -4,7 +4,16 @@ use mathlib.Core.Bool.{Bool, true, false}
 use Prim.Native.Nat.{ℕ, zero, suc, ◌+◌}
 use native.Mathlib.Omega.{arith}
 use lib.ListN.{length}
-use Rattle.std.specs.List.{range_with_len, list_all, list_any, sum_by, filter}
+use denote.Param.Members.{Mut}
+use Rattle.std.specs.declared.ops.Range.{Range}
+use Rattle.std.specs.Fn.{Called}
+use Rattle.std.specs.Iterator.{YieldsThen}
+use Rattle.std.specs.Option.{MatchOption}
+use Rattle.std.specs.Prelude.{List, Option}
+use Rattle.std.proofs.iter.Yields.{nat_range_steps}
+use Rattle.std.proofs.lemmas.Iterator.{YieldsList-from_range}
+use Rattle.std.proofs.lemmas.Iterator.Search.{all_from_yields_List, any_from_yields_List}
+use Rattle.std.specs.List.{FoldsTo, range_with_len, list_all, list_any, sum_by, filter}
 use Rattle.std.proofs.lemmas.List.Sums.{sum_by-cons, length-filter}
 use Rattle.laws.specs.Tests.{all_below, any_below}
 use Rattle.laws.specs.Sums.{sum_below, bit, tally}
@@ -52,3 +61,15 @@ module _ (f : ℕ → ℕ) where
 pub tally_range : (p : ℕ → Bool) (n : ℕ) → length (filter p (range_with_len 0 n)) ≡ tally p n
 unfolding bit
 tally_range p n = length-filter p (range_with_len 0 n) ∙ sum_range (λ i. bit (p i)) n
+
+-- ---- what a call of `all` or of `any` over 0..n answers, by its clause `ran`, where the closure tells p and changes nothing
+module _ {F : Type 0} {g : Mut F (ℕ × Unit {0}) Bool} {s u : Range ℕ} {f : F} {r : Bool} (p : ℕ → Bool) (n : ℕ) (over : s ≡ record { start = 0; end = n }) where
+  pub all_told : ((xs : List ℕ) × (o : Option ℕ) × (j : F) × YieldsThen nat_range_steps s xs o u × FoldsTo (λ a x b. Called g a (x, tt) true b) f xs j × MatchOption o (r ≡ true) (λ x. (r ≡ false) × ((h : F) × Called g j (x, tt) false h)))
+      → ((x : ℕ) (b : Bool) (q : F) → Called g f (x, tt) b q → (q ≡ f) × (b ≡ p x))
+      → r ≡ all_below p n
+  all_told ran k = all_from_yields_List p u f r ran (YieldsList-from_range 0 n n over (omega arith)) k ∙ all_range p n
+
+  pub any_told : ((xs : List ℕ) × (o : Option ℕ) × (j : F) × YieldsThen nat_range_steps s xs o u × FoldsTo (λ a x b. Called g a (x, tt) false b) f xs j × MatchOption o (r ≡ false) (λ x. (r ≡ true) × ((h : F) × Called g j (x, tt) true h)))
+      → ((x : ℕ) (b : Bool) (q : F) → Called g f (x, tt) b q → (q ≡ f) × (b ≡ p x))
+      → r ≡ any_below p n
+  any_told ran k = any_from_yields_List p u f r ran (YieldsList-from_range 0 n n over (omega arith)) k ∙ any_range p n
