@@ -36,6 +36,7 @@ fn thread_sound(layers: &[u64], threads: &[u64], used: u64, t: usize) -> bool
     let youngest = threads[at + THREAD_YOUNGEST];
     let privs = threads[at + THREAD_PRIVS];
     let admin = threads[at + THREAD_ADMIN];
+    // Cells, which may hold any number.
     if state == 0 {
         if youngest != 0 {
             return false;
