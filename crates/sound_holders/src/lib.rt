@@ -46,6 +46,7 @@ fn depth_of(layers: &[u64], depths: &[u64], l: usize) -> Option<u64>
     requires { (length layers.now ≡ layer_width * max_layers) × ((l < max_layers) × Depths layers.now depths.now l) }
     ensures { MatchOption result (max_domain < depth layers.now max_domain (l + 1)) (λ d. (d ≤ max_domain) × (d ≡ depth layers.now max_domain (l + 1))) }
 {
+    // As the cells name a layer: its number + 1, or 0 for none.
     let mut at = l as u64 + 1;
     for n in 0..MAX_DOMAIN as u64 {
         if at == 0 {
