@@ -1,8 +1,6 @@
-use mathlib.Core.Path.{refl, ◌∙◌}
+use mathlib.Core.Path.{refl}
 use Rattle.std.proofs.Common.{rules, tests}
-use Rattle.std.proofs.lemmas.Iterator.{YieldsList-from_range}
-use Rattle.std.proofs.lemmas.Iterator.Search.{any_from_yields_List}
-use Rattle.laws.proofs.Ranges.{any_range}
+use Rattle.laws.proofs.Ranges.{any_told}
 use Rattle.access.specs.Limits.{max_rulesets}
 use Rattle.tables.specs.Layers.{is_open}
 use Rattle.sound.specs.Sound.{any_open}
@@ -12,4 +10,4 @@ pub returns : goal.returns
 unfolding any_open is_open
 returns c =
     let rs = c.args.rulesets.now in
-    any_from_yields_List (is_open rs) _ _ _ c.any.ensures.ran (YieldsList-from_range 0 max_rulesets max_rulesets refl refl) (λ x b q k. search (rules, tests)) ∙ any_range (is_open rs) max_rulesets
+    any_told (is_open rs) max_rulesets refl c.any.ensures.ran (λ x b q k. search (rules, tests))
