@@ -39,17 +39,12 @@ fn any_open(rulesets: &[u64]) -> bool
     requires { length rulesets.now ≡ ruleset_width * max_rulesets }
     ensures { result ≡ any_open rulesets.now }
 {
-    let mut r = 0;
-    while r < MAX_RULESETS {
+    (0..MAX_RULESETS).any(|r| {
         let at = RULESET_WIDTH * r;
         let fs = Rights(rulesets[at]);
         let net = Rights(rulesets[at + RULESET_NET]);
-        if handles_any(fs, net, Rights(rulesets[at + RULESET_SCOPE])) {
-            return true;
-        }
-        r += 1;
-    }
-    false
+        handles_any(fs, net, Rights(rulesets[at + RULESET_SCOPE]))
+    })
 }
 
 fn level_zero_sound(system: &[u64], rulesets: &[u64]) -> bool

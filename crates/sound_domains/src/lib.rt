@@ -15,8 +15,7 @@ fn chain_ends(layers: &[u64], y: u64) -> bool
     ensures { result ≡ chain_ends layers.now max_domain y }
 {
     let mut at = y;
-    let mut n = MAX_DOMAIN;
-    while n > 0 {
+    for _ in 0..MAX_DOMAIN {
         if at == 0 {
             return true;
         }
@@ -24,7 +23,6 @@ fn chain_ends(layers: &[u64], y: u64) -> bool
             return true;
         }
         at = layers[LAYER_WIDTH * (at - 1) as usize];
-        n -= 1;
     }
     at == 0
 }
@@ -38,6 +36,7 @@ fn thread_sound(layers: &[u64], threads: &[u64], used: u64, t: usize) -> bool
     let youngest = threads[at + THREAD_YOUNGEST];
     let privs = threads[at + THREAD_PRIVS];
     let admin = threads[at + THREAD_ADMIN];
+    // Cells, which may hold any number.
     if state == 0 {
         if youngest != 0 {
             return false;
@@ -67,13 +66,5 @@ pub fn threads_sound(layers: &[u64], threads: &[u64], used: u64) -> bool
     requires { (length layers.now ≡ layer_width * max_layers) × (length threads.now ≡ thread_width * max_threads) }
     ensures { result ≡ threads_sound layers.now threads.now used }
 {
-    let mut t = 0;
-    while t < MAX_THREADS {
-        if thread_sound(layers, threads, used, t) {
-            t += 1;
-        } else {
-            return false;
-        }
-    }
-    true
+    (0..MAX_THREADS).all(|t| thread_sound(layers, threads, used, t))
 }

@@ -2,7 +2,7 @@
 // at a layer that an earlier climb came from.
 #![tactic(auto)]
 
-ghost use Rattle.std.specs.Prelude.{◌≡◌, ℕ, ◌+◌, ◌-◌, ◌*◌, ◌<◌, ◌≤◌, length, get_or};
+ghost use Rattle.std.specs.Prelude.{◌≡◌, ℕ, ◌+◌, ◌-◌, ◌*◌, ◌<◌, ◌≤◌, length, get_or, MatchOption};
 ghost use Rattle.laws.specs.Tests.{all_below};
 ghost use Rattle.access.specs.Limits.{max_layers, max_threads, max_domain};
 ghost use Rattle.tables.specs.Tables.{layer_width, thread_width};
@@ -36,50 +36,44 @@ fn count_rows(counts: &mut [u64], table: &[u64], width: usize, k: usize, n: usiz
     requires { (n ≤ 1024) × ((l : ℕ) → get_or counts.old l 0 ≤ 1024) }
     ensures { counts.new ≡ count_rows counts.old table.now width k n }
 {
-    let mut i = 0;
-    while i < n {
+    for i in 0..n {
         count_one(counts, row_read(table, width, i, k));
-        i += 1;
     }
 }
 
-// How many layers there are from `l` on, where more than the limit of a domain count as one more. `depths` has this of each layer below `l`.
-fn depth_of(layers: &[u64], depths: &[u64], l: usize) -> u64
+// How many layers there are from `l` on; none if these are more than the limit of a domain. `depths` has this of each layer below `l`.
+fn depth_of(layers: &[u64], depths: &[u64], l: usize) -> Option<u64>
     requires { (length layers.now ≡ layer_width * max_layers) × ((l < max_layers) × Depths layers.now depths.now l) }
-    ensures { result ≡ depth layers.now max_domain (l + 1) }
+    ensures { MatchOption result (max_domain < depth layers.now max_domain (l + 1)) (λ d. (d ≤ max_domain) × (d ≡ depth layers.now max_domain (l + 1))) }
 {
+    // As the cells name a layer: its number + 1, or 0 for none.
     let mut at = l as u64 + 1;
-    let mut n = 0;
-    while n < MAX_DOMAIN as u64 {
+    for n in 0..MAX_DOMAIN as u64 {
         if at == 0 {
-            return n;
+            return Some(n);
         }
         if at <= l as u64 {
             let d = n + depths[(at - 1) as usize];
-            return if d > MAX_DOMAIN as u64 {
-                MAX_DOMAIN as u64 + 1
-            } else {
-                d
-            };
+            return if d > MAX_DOMAIN as u64 { None } else { Some(d) };
         }
         if at > MAX_LAYERS as u64 {
-            return n + 1;
+            return Some(n + 1);
         }
         at = layers[LAYER_WIDTH * (at - 1) as usize];
-        n += 1;
     }
-    if at == 0 { n } else { n + 1 }
+    if at == 0 {
+        Some(MAX_DOMAIN as u64)
+    } else {
+        None
+    }
 }
 
-// A layer's parent is one of the records, its depth `d` is within the limit of a domain, and its count is the one counted.
-fn place_sound(layers: &[u64], counts: &[u64], l: usize, d: u64) -> bool
-    requires { d ≡ depth layers.now max_domain (l + 1) }
+// A layer's parent is one of the records, and its count is the one counted; its depth is within the limit of a domain.
+fn place_sound(layers: &[u64], counts: &[u64], l: usize) -> bool
+    requires { depth layers.now max_domain (l + 1) ≤ max_domain }
     ensures { result ≡ place_counted layers.now counts.now l }
 {
     if layer_parent(layers, l as u64) > MAX_LAYERS as u64 {
-        return false;
-    }
-    if d > MAX_DOMAIN as u64 {
         return false;
     }
     layer_holders(layers, l as u64) == read(counts, l)
@@ -90,14 +84,14 @@ fn places_sound(layers: &[u64], counts: &[u64]) -> bool
     ensures { result ≡ all_below (place_counted layers.now counts.now) max_layers }
 {
     let mut depths = [0u64; MAX_LAYERS];
-    let mut l = 0;
-    while l < MAX_LAYERS {
-        let d = depth_of(layers, &depths, l);
-        if !place_sound(layers, counts, l, d) {
+    for l in 0..MAX_LAYERS {
+        let Some(d) = depth_of(layers, &depths, l) else {
+            return false;
+        };
+        if !place_sound(layers, counts, l) {
             return false;
         }
         depths[l] = d;
-        l += 1;
     }
     true
 }

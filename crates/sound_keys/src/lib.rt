@@ -32,14 +32,7 @@ fn new_key(rules: &[u64], i: usize, ty: u64, key: u64) -> bool
     requires { (i < rule_count rules.now) × ((ty ≡ rule_type rules.now i) × (key ≡ rule_key rules.now i)) }
     ensures { result ≡ new_key rules.now i }
 {
-    let mut j = 0;
-    while j < i {
-        if same_key(rules, j, ty, key) {
-            return false;
-        }
-        j += 1;
-    }
-    true
+    (0..i).all(|j| !same_key(rules, j, ty, key))
 }
 
 fn flag_of(key: u64) -> usize
@@ -76,8 +69,7 @@ pub fn rules_sound(
 {
     let n = rules.len() / RULE_WIDTH;
     let mut seen = [0u64; FLAGS as usize / WORD_BITS];
-    let mut i = 0;
-    while i < n {
+    for i in 0..n {
         let ty = rules[RULE_WIDTH * i];
         let key = rules[RULE_WIDTH * i + RULE_KEY];
         let rights = Rights(rules[RULE_WIDTH * i + RULE_RIGHTS]);
@@ -87,7 +79,6 @@ pub fn rules_sound(
         if !take_key(rules, &mut seen, i, ty, key) {
             return false;
         }
-        i += 1;
     }
     true
 }

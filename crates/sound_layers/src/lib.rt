@@ -106,13 +106,7 @@ pub fn each_sound(
     requires { (length layers.now ≡ layer_width * max_layers) × ((length pool.now ≡ rule_width * max_pool) × ((taken ≤ max_pool) × ((length entries.now ≡ entry_width * max_entries) × Indexed entries.now heads.now links.now))) }
     ensures { result ≡ all_below (record_sound entries.now next level layers.now pool.now taken) max_layers }
 {
-    let mut l = 0;
-    while l < MAX_LAYERS {
-        if record_sound(entries, heads, links, next, level, layers, pool, taken, l) {
-            l += 1;
-        } else {
-            return false;
-        }
-    }
-    true
+    (0..MAX_LAYERS).all(|l| record_sound(
+        entries, heads, links, next, level, layers, pool, taken, l,
+    ))
 }

@@ -17,6 +17,7 @@ fn file_object(entries: &[u64], heads: &[u16], links: &[u16], object: u64) -> bo
     requires { (length entries.now ≡ entry_width * max_entries) × Indexed entries.now heads.now links.now }
     ensures { result ≡ file_object entries.now object }
 {
+    // In the index, which is zeroed at each call, 0 is no node.
     let root = heads[bucket_of(object)] as usize;
     if root == 0 {
         return false;
@@ -87,6 +88,7 @@ pub fn cells_sound(
     requires { (length entries.now ≡ entry_width * max_entries) × Indexed entries.now heads.now links.now }
     ensures { result ≡ cells_sound entries.now next fs.0 net.0 ty key rights.0 }
 {
+    // A cell, which may hold any number.
     match ty {
         PATH_RULE => path_sound(entries, heads, links, next, fs, key, rights),
         PORT_RULE => port_sound(net, key, rights),

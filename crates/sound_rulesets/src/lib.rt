@@ -63,13 +63,5 @@ pub fn rulesets_sound(
     requires { (length rulesets.now ≡ ruleset_width * max_rulesets) × ((length entries.now ≡ entry_width * max_entries) × Indexed entries.now heads.now links.now) }
     ensures { result ≡ rulesets_sound entries.now next level rulesets.now }
 {
-    let mut r = 0;
-    while r < MAX_RULESETS {
-        if ruleset_sound(entries, heads, links, next, level, rulesets, r) {
-            r += 1;
-        } else {
-            return false;
-        }
-    }
-    true
+    (0..MAX_RULESETS).all(|r| ruleset_sound(entries, heads, links, next, level, rulesets, r))
 }

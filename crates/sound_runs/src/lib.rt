@@ -22,14 +22,11 @@ fn runs_sound(layers: &[u64]) -> bool
     ensures { result ≡ all_below (run_sound layers.now) max_layers }
 {
     let mut taken = [0u64; MAX_POOL / WORD_BITS];
-    let mut l = 0;
-    while l < MAX_LAYERS {
+    for l in 0..MAX_LAYERS {
         let at = LAYER_WIDTH * l;
         let first = layers[at + LAYER_FIRST] as usize;
         let count = layers[at + LAYER_COUNT] as usize;
-        if take_run(&mut taken, first, count) {
-            l += 1;
-        } else {
+        if !take_run(&mut taken, first, count) {
             return false;
         }
     }
@@ -41,15 +38,10 @@ fn layers_counted(layers: &[u64], used: u64) -> bool
     requires { length layers.now ≡ layer_width * max_layers }
     ensures { result ≡ layers_counted layers.now used }
 {
-    let mut n: u64 = 0;
-    let mut l = 0;
-    while l < MAX_LAYERS {
-        if layers[LAYER_WIDTH * l + LAYER_HOLDERS] != 0 {
-            n += 1;
-        }
-        l += 1;
-    }
-    used == n
+    let n = (0..MAX_LAYERS)
+        .filter(|l| layers[LAYER_WIDTH * *l + LAYER_HOLDERS] != 0)
+        .count();
+    used == n as u64
 }
 
 // They have so many rules.
@@ -57,12 +49,9 @@ fn pool_filled(layers: &[u64], taken: u64) -> bool
     requires { (length layers.now ≡ layer_width * max_layers) × RunsPlaced layers.now max_layers }
     ensures { result ≡ pool_filled layers.now taken }
 {
-    let mut n: u64 = 0;
-    let mut l = 0;
-    while l < MAX_LAYERS {
-        n += layers[LAYER_WIDTH * l + LAYER_COUNT];
-        l += 1;
-    }
+    let n: u64 = (0..MAX_LAYERS)
+        .map(|l| layers[LAYER_WIDTH * l + LAYER_COUNT])
+        .sum();
     taken == n
 }
 

@@ -1,4 +1,3 @@
-use borrow.Author.Rules.{rules}
 use borrow.Author.Tests.{eq-eqb, ne_eqb}
 use Rattle.laws.proofs.Conditions.{all-is, conditions}
 use Rattle.sound.specs.Sound.{level_zero_sound}

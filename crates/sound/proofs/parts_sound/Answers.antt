@@ -1,8 +1,6 @@
 use mathlib.Core.Bool.{not}
 use mathlib.Core.Path.{refl, ap}
 use native.Mathlib.Omega.{arith}
-use borrow.Author.Rules.{rules}
-use borrow.Author.Tests.{not-false}
 use Rattle.laws.proofs.Conditions.{all-is, conditions, last, holds_if_not, fails_if_not}
 use Rattle.tables.proofs.Lengths.{lengths}
 use Rattle.sound_objects.proofs.Rows.{rows_end}

@@ -1,4 +1,3 @@
-use borrow.Author.Rules.{rules}
 use Rattle.laws.proofs.Conditions.{all-is, conditions}
 use Rattle.sound.specs.Sound.{system_sound}
 use Rattle.sound.proofs.system_sound.Goals as goal

@@ -1,4 +1,3 @@
-use borrow.Author.Rules.{rules}
 use Rattle.laws.proofs.Conditions.{all-is, conditions}
 use Rattle.sound_domains.specs.Domains.{free_sound}
 use Rattle.sound_domains.proofs.Rows.{thread-free, thread-live}

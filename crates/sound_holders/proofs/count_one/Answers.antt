@@ -1,4 +1,3 @@
-use borrow.Author.Rules.{rules}
 use Rattle.sound_domains.proofs.Counting.{one_none, one_step, one_past}
 use Rattle.sound_holders.proofs.count_one.Goals as goal
 

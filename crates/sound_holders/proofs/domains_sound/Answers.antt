@@ -1,4 +1,3 @@
-use borrow.Author.Rules.{rules}
 use Rattle.laws.proofs.Conditions.{all-is, conditions}
 use Rattle.sound_domains.specs.Domains.{domains_sound}
 use Rattle.sound_holders.proofs.domains_sound.Goals as goal

@@ -1,9 +1,8 @@
-use mathlib.Core.Path.{refl, sym, ap, ◌∙◌}
+use mathlib.Core.Path.{ap, ◌∙◌}
 use mathlib.Core.List.{List}
 use Prim.Native.Nat.{ℕ, ◌+◌, ◌≤◌}
 use native.Mathlib.Omega.{arith}
 use lib.ListN.{get_or, replicate}
-use borrow.Author.Rules.{rules}
 use Rattle.laws.proofs.Cells.{get_or-zeros}
 use Rattle.access.specs.Limits.{max_layers, max_threads}
 use Rattle.tables.specs.Tables.{layer_width, thread_width}
@@ -15,10 +14,6 @@ pub count_rows-requires : goal.count_rows-requires
 count_rows-requires c =
     (omega arith, λ l. let z = get_or-zeros max_layers l in omega arith)
 
-pub slice_bounds-count_rows-end-2 : goal.slice_bounds-count_rows-end-2
-slice_bounds-count_rows-end-2 c =
-    sym c.count_rows.auto.counts
-
 pub count_rows-requires-2 : goal.count_rows-requires-2
 count_rows-requires-2 c = (
   omega arith,
@@ -28,10 +23,6 @@ count_rows-requires-2 c = (
       let g : get_or c.count_rows.new.counts l 0 ≤ 0 + max_layers = rw c.count_rows.ensures f in
       omega arith,
 )
-
-pub slice_bounds-places_sound-end : goal.slice_bounds-places_sound-end
-slice_bounds-places_sound-end c =
-    sym (c.count_rows-2.auto.counts ∙ c.count_rows.auto.counts)
 
 pub returns : goal.returns
 returns c =

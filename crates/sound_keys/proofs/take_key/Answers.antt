@@ -1,21 +1,13 @@
 -- A clear flag: no rule before has the key. A set one: what `new_key` tells.
 use mathlib.Core.Path.{sym, ap, ◌∙◌}
 use native.Mathlib.Omega.{arith}
-use borrow.Author.Rules.{rules}
 use Rattle.sound_rules.specs.Flags.{flag_of}
-use Rattle.sound_rules.proofs.Flags.{flag_in, marked-same, marked_more, clear_new}
+use Rattle.sound_rules.proofs.Flags.{flag_in, marked_more, clear_new}
 use Rattle.sound_keys.proofs.take_key.Goals as goal
 
 pub is_set-requires : goal.is_set-requires
 is_set-requires c =
     let h = flag_in _ _ c.flag_of-b.ensures in omega arith
-
-pub returns-then-is_set : goal.returns-then-is_set
-returns-then-is_set c =
-    let p = c.requires in (
-      c.new_key.ensures,
-      λ r. marked-same c.args.rules.now c.args.i c.flag_of-b.result (c.flag_of-b.ensures ∙ ap flag_of p.1.1) c.args.seen.now p.2.1 (sym c.is_set.ensures ∙ c.if-is_set.true),
-    )
 
 pub set_flag-requires : goal.set_flag-requires
 set_flag-requires c =

@@ -3,7 +3,6 @@ use mathlib.Core.Bool.{true}
 use mathlib.Core.List.{List}
 use Prim.Native.Nat.{ℕ, ◌+◌, ◌≤◌}
 use native.Mathlib.Omega.{arith}
-use borrow.Author.Rules.{rules}
 use Rattle.laws.proofs.Conditions.{all-is, conditions, last, holds_by, fails_by}
 use Rattle.access.specs.Limits.{max_pool}
 use Rattle.tables.specs.Layers.{layer_first, layer_count, layer_at}

@@ -1,4 +1,3 @@
-use borrow.Author.Rules.{rules}
 use Rattle.sound_layers.proofs.Records.{record_free, record_used}
 use Rattle.sound_layers.proofs.record_sound.Goals as goal
 

@@ -1,6 +1,5 @@
 use mathlib.Core.Bool.{not}
 use mathlib.Core.Path.{ap}
-use borrow.Author.Rules.{rules}
 use Rattle.laws.proofs.Conditions.{all-is, conditions}
 use Rattle.sound_rulesets.proofs.Rows.{row_closed, row_open}
 use Rattle.sound_rulesets.proofs.ruleset_sound.Goals as goal

@@ -1,39 +1,18 @@
-use mathlib.Core.Path.{◌≡◌, ap, ◌∙◌}
-use Prim.Native.Nat.{◌≤◌, ◌-◌}
-use native.Mathlib.Omega.{arith}
+use mathlib.Core.Path.{refl, ap, ◌∙◌}
 use lib.Dec.{eqb}
-use borrow.Author.Rules.{rules}
-use Rattle.laws.specs.Sums.{tally}
+use Rattle.std.proofs.Common.{rules, tests}
+use Rattle.std.proofs.lemmas.Iterator.{YieldsList-from_range}
+use Rattle.std.proofs.lemmas.Iterator.Consumers.{YieldsList-from_filter, count_from_yields_List}
+use Rattle.laws.proofs.Ranges.{tally_range}
 use Rattle.access.specs.Limits.{max_layers}
 use Rattle.tables.specs.Layers.{layer_in_use}
-use Rattle.laws.proofs.Sums.{sum_start, tally_yes, tally_no}
 use Rattle.sound_layers.specs.Layers.{layers_counted}
-use Rattle.tables.proofs.Layers.{held_none, held-some}
 use Rattle.sound_runs.proofs.layers_counted.Goals as goal
-use Rattle.sound_runs.proofs.layers_counted.Goals.{then-layers-l-ne0, else-layers-l-ne0}
-
-pub loop-l-init : goal.loop-l-init
-unfolding layers_counted
-loop-l-init c =
-    (omega arith, omega arith, sum_start _)
-
-pub loop-l-preserved : goal.loop-l-preserved
-unfolding layers_counted
-loop-l-preserved c =
-    let l = c.loop-l in
-    let ls = c.args.layers.now in (
-      omega arith,
-      elim c.if-layers-l-ne0.branch [ then-layers-l-ne0 w ↦ let q = w.n-is in omega arith | else-layers-l-ne0 w ↦ let q = w.n-is in omega arith ],
-      elim c.if-layers-l-ne0.branch [
-        | then-layers-l-ne0 w ↦ w.n-is ∙ tally_yes (layer_in_use ls) l.l l.n l.invariant.2 (held-some ls l.l w.if-layers-l-ne0.true)
-        | else-layers-l-ne0 w ↦ w.n-is ∙ tally_no (layer_in_use ls) l.l l.n l.invariant.2 (held_none ls l.l w.if-layers-l-ne0.false)
-      ],
-    )
 
 pub returns : goal.returns
-unfolding layers_counted
+unfolding layers_counted layer_in_use
 returns c =
-    let l = c.loop-l in
-    let e : l.l ≡ max_layers = omega arith in
-    let a = c.args in
-    ap (eqb a.used) (l.invariant.2 ∙ ap (tally (layer_in_use a.layers.now)) e)
+    let ls = c.args.layers.now in
+    let n = count_from_yields_List c.filter.result _ c.count-n.ensures.ran
+    (YieldsList-from_filter _ (layer_in_use ls) (YieldsList-from_range 0 max_layers max_layers c.filter.ensures.source refl) c.filter.ensures.closure (λ x b q k. search (rules, tests))) in
+    ap (eqb c.args.used) (n ∙ tally_range (layer_in_use ls) max_layers)

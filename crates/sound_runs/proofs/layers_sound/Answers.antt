@@ -1,9 +1,6 @@
 use mathlib.Core.Path.{sym, ◌∙◌}
-use borrow.Author.Rules.{rules}
 use Rattle.laws.proofs.Conditions.{all-is, conditions, fails_by, holds_by, holds_le}
-use Rattle.access.specs.Limits.{max_layers}
 use Rattle.sound_layers.specs.Layers.{layers_sound}
-use Rattle.sound_layers.specs.Runs.{RunsPlaced}
 use Rattle.sound_layers.proofs.Records.{records_placed}
 use Rattle.sound_runs.proofs.layers_sound.Goals as goal
 

@@ -1,36 +1,37 @@
-use mathlib.Core.Path.{◌≡◌, ap, ◌∙◌}
-use Prim.Native.Nat.{◌≤◌, ◌-◌, ◌*◌}
+use mathlib.Core.Path.{refl, ap, ◌∙◌}
+use Prim.Native.Nat.{ℕ, zero, suc, ◌*◌, ◌≤◌, ◌<◌}
 use native.Mathlib.Omega.{arith}
 use lib.Dec.{eqb}
-use borrow.Author.Rules.{rules}
+use Rattle.std.proofs.Common.{rules, tests}
+use Rattle.std.specs.List.{range_with_len}
+use Rattle.std.proofs.lemmas.Iterator.{YieldsList-from_range, YieldsList-from_map}
+use Rattle.std.proofs.lemmas.Iterator.Consumers.{fits_by_from_yields_list, sum_by_from_yields_List}
 use Rattle.laws.specs.Sums.{sum_below}
+use Rattle.laws.proofs.Ranges.{sum_range}
 use Rattle.access.specs.Limits.{max_layers, max_rules}
 use Rattle.tables.specs.Layers.{layer_count}
-use Rattle.laws.proofs.Sums.{sum_start, sum_more}
 use Rattle.sound_layers.specs.Layers.{pool_filled}
 use Rattle.sound_runs.proofs.pool_filled.Goals as goal
 
-pub loop-l-init : goal.loop-l-init
-unfolding pool_filled
-loop-l-init c =
-    (omega arith, omega arith, sum_start _)
+-- numbers that are each at most m
+sum_few : (f : ℕ → ℕ) (m n : ℕ) → ((i : ℕ) → i < n → f i ≤ m) → sum_below f n ≤ m * n
+unfolding sum_below
+sum_few f m zero h = omega arith
+sum_few f m (suc n) h = let r = sum_few f m n (λ i k. h i (omega arith)) in let a = h n (omega arith) in omega arith
 
-pub overflow_add-n-in-loop-l : goal.overflow_add-n-in-loop-l
-unfolding pool_filled
-overflow_add-n-in-loop-l c =
-    let f = (c.requires.1 c.loop-l.l (omega arith)).0 in omega arith
-
-pub loop-l-preserved : goal.loop-l-preserved
-unfolding pool_filled
-loop-l-preserved c =
-    let l = c.loop-l in
-    let f = (c.requires.1 c.loop-l.l (omega arith)).0 in
-    (omega arith, omega arith, sum_more (layer_count c.args.layers.now) l.l l.n l.invariant.2)
+pub sum-n-requires-clause-fits : goal.sum-n-requires-clause-fits
+sum-n-requires-clause-fits c =
+    let f = layer_count c.args.layers.now in
+    let few = sum_few f max_rules max_layers (λ l b. (c.requires.1 l b).0) in
+    let all = sum_range f max_layers in
+    fits_by_from_yields_list f (range_with_len 0 max_layers) c.map.result _
+    (YieldsList-from_map _ f (YieldsList-from_range 0 max_layers max_layers c.map.ensures.source refl) c.map.ensures.closure (λ x b q k. search (rules, tests)))
+    (omega arith)
 
 pub returns : goal.returns
 unfolding pool_filled
 returns c =
-    let l = c.loop-l in
-    let e : l.l ≡ max_layers = omega arith in
-    let a = c.args in
-    ap (eqb a.taken) (l.invariant.2 ∙ ap (sum_below (layer_count a.layers.now)) e)
+    let f = layer_count c.args.layers.now in
+    let n = sum_by_from_yields_List f (range_with_len 0 max_layers) c.map.result _ c.sum-n.ensures.ran
+    (YieldsList-from_map _ f (YieldsList-from_range 0 max_layers max_layers c.map.ensures.source refl) c.map.ensures.closure (λ x b q k. search (rules, tests))) in
+    ap (eqb c.args.taken) (n ∙ sum_range f max_layers)
